@@ -132,7 +132,7 @@ def citations() -> Iterator[str]:
 
 def unused() -> Iterator[str]:
     texts = [*files("src", ".rt").values(), *files("specs", ".antt").values(), *files("proofs", ".antt").values()]
-    counts = Counter(word for text in texts for word in re.findall(r"[^\s(){}\[\],;.`]+", text))
+    counts = Counter(word for text in texts for word in re.findall(r"[^\s(){}\[\],;.`]+", text.replace("::", " ")))
     for _, path, text in product_files("proofs", ".antt"):
         if path.stem in ("Answers", "Invariants", "Proof"):
             continue

@@ -28,13 +28,13 @@ MARKS = ROOT / "docs/definition_marks.txt"
 # The definitions that the contract of `units_main` cites.
 HEADLINE = [
     Name("units_run", "Headline", "IsRun"),
-    Name("units_run", "GrantedConversions", "GrantsExactly"),
-    Name("units_run", "LeftAlone", "TakesNone"),
-    Name("units_run", "LeftAlone", "OpensNone"),
-    Name("units_run", "Openings", "IsOpened"),
-    Name("units_run", "Openings", "first_on_err"),
-    Name("units_run", "Needs", "needs_definitions"),
-    Name("session", "HeardLines", "NamesNoFile"),
+    Name("units_run", "GrantedConversions", "RunGrantsExactly"),
+    Name("units_run", "LeftAlone", "RunTakesNoInput"),
+    Name("units_run", "LeftAlone", "RunOpensNoSession"),
+    Name("units_run", "Openings", "IsPlanOpened"),
+    Name("units_run", "Openings", "first_plan_text_on_err"),
+    Name("units_run", "Needs", "run_needs_definitions"),
+    Name("session", "HeardLines", "HeardInputNamesNoFile"),
 ]
 QUOTED = re.compile(r"`([^`]+)`")
 MOST_BYTES = 10 * 1024

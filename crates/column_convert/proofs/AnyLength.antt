@@ -11,45 +11,49 @@ use Rattle.std.specs.Prelude.{OnOk, Result, Ok, Err, is_err}
 abbrev any_length : WriterBuilder
 any_length = with_flexible default_writer true
 
-same_escaped : (field : List ℕ) → escaped any_length field ≡ escaped default_writer field
+record_escape_at_any_length : (field : List ℕ) → escaped any_length field ≡ escaped default_writer field
 unfolding escaped
-same_escaped [] = refl
-same_escaped (b ∷ rest) =
-    ap (λ (t : List ℕ). cond (b == 34) (34 ∷ b ∷ t) (b ∷ t)) (same_escaped rest)
+record_escape_at_any_length [] = refl
+record_escape_at_any_length (b ∷ rest) =
+    ap (λ (t : List ℕ). cond (b == 34) (34 ∷ b ∷ t) (b ∷ t)) (record_escape_at_any_length rest)
 
-same_field : (field : List ℕ) → field_text any_length field ≡ field_text default_writer field
-same_field field =
-    ap (λ (t : List ℕ). cond (needs_quotes default_writer field) (34 ∷ (t ++ (34 ∷ []))) field) (same_escaped field)
+record_field_at_any_length : (field : List ℕ) → field_text any_length field ≡ field_text default_writer field
+record_field_at_any_length field =
+    ap (λ (t : List ℕ). cond (needs_quotes default_writer field) (34 ∷ (t ++ (34 ∷ []))) field)
+    (record_escape_at_any_length field)
 
-same_fields : (fields : List (List ℕ)) → fields_text any_length fields ≡ fields_text default_writer fields
+record_fields_at_any_length : (fields : List (List ℕ)) → fields_text any_length fields ≡ fields_text default_writer
+    fields
 unfolding fields_text
-same_fields [] = refl
-same_fields (field ∷ rest) = λ i. 44 ∷ (same_field field i ++ same_fields rest i)
+record_fields_at_any_length [] = refl
+record_fields_at_any_length (field ∷ rest) = λ i.
+    44 ∷ (record_field_at_any_length field i ++ record_fields_at_any_length rest i)
 
-same_blank : (fields : List (List ℕ)) → is_blank any_length fields ≡ is_blank default_writer fields
+blank_record_at_any_length : (fields : List (List ℕ)) → is_blank any_length fields ≡ is_blank default_writer fields
 unfolding is_blank
-same_blank [] = refl
-same_blank (field ∷ []) = ap (λ (t : List ℕ). length t == 0) (same_field field)
-same_blank (field ∷ next ∷ rest) = refl
+blank_record_at_any_length [] = refl
+blank_record_at_any_length (field ∷ []) = ap (λ (t : List ℕ). length t == 0) (record_field_at_any_length field)
+blank_record_at_any_length (field ∷ next ∷ rest) = refl
 
-pub same_row : (fields : List (List ℕ)) → row_text any_length fields ≡ row_text default_writer fields
-same_row [] = ap (λ (b : Bool). cond b (34 ∷ 34 ∷ []) [] ++ (10 ∷ [])) (same_blank [])
-same_row (field ∷ rest) =
-    λ i. (same_field field i ++ same_fields rest i)
-    ++ (cond (same_blank (field ∷ rest) i) (34 ∷ 34 ∷ []) [] ++ (10 ∷ []))
+pub row_text_at_any_length : (fields : List (List ℕ)) → row_text any_length fields ≡ row_text default_writer fields
+row_text_at_any_length [] = ap (λ (b : Bool). cond b (34 ∷ 34 ∷ []) [] ++ (10 ∷ [])) (blank_record_at_any_length [])
+row_text_at_any_length (field ∷ rest) =
+    λ i. (record_field_at_any_length field i ++ record_fields_at_any_length rest i)
+    ++ (cond (blank_record_at_any_length (field ∷ rest) i) (34 ∷ 34 ∷ []) [] ++ (10 ∷ []))
 
 -- a known text, with more appended
-pub appended : (before after : Option (List ℕ)) (text more : List ℕ) → before ≡ Some text → Appends before after more
+pub record_text_is_appended : (before after : Option (List ℕ)) (text more : List ℕ) → before ≡ Some text
+    → Appends before after more
     → after ≡ Some (text ++ more)
-appended None after text more is grows = cc
-appended (Some held) None text more is grows = absurd grows
-appended (Some held) (Some new) text more is grows = cc
+record_text_is_appended None after text more is grows = cc
+record_text_is_appended (Some held) None text more is grows = absurd grows
+record_text_is_appended (Some held) (Some new) text more is grows = cc
 
 -- a writer of records of any length does not treat numbers differently
-pub not_by_number : (setup : WriterBuilder) → setup ≡ any_length → setup.style ≡ style.NonNumeric → ⊥
-not_by_number setup is by_number =
+pub record_writer_ignores_numbers : (setup : WriterBuilder) → setup ≡ any_length → setup.style ≡ style.NonNumeric → ⊥
+record_writer_ignores_numbers setup is by_number =
     let p : style.Necessary ≡ style.NonNumeric = sym (ap (λ (w : WriterBuilder). w.style) is) ∙ by_number in cc
 
-pub when_ok : {A E P : Type 0} (r : Result A E) → is_err r ≡ false → OnOk r P → P
-when_ok (Ok x) is p = p
-when_ok (Err x) is p = cc
+pub ok_record_result_holds : {A E P : Type 0} (r : Result A E) → is_err r ≡ false → OnOk r P → P
+ok_record_result_holds (Ok x) is p = p
+ok_record_result_holds (Err x) is p = cc

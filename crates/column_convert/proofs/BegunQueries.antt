@@ -3,19 +3,21 @@ use Rattle.std.proofs.Common.{◌≡◌, ◌≤◌, ◌-◌, ◌^◌, ◌++◌, 
 use Rattle.std.specs.Prelude.{Result, Ok, Err}
 use Rattle.std.specs.declared.alloc.AllocError.{AllocError}
 use Rattle.expr_tree.specs.declared.word_list.WordUse.{WordUse}
-use Rattle.live_table.specs.Calls.{AreQueries}
-use Rattle.live_table.specs.TableView.{IsAfterEvents, IsCutOff, IsRightTable, Shown, state_with_steps}
-use Rattle.live_table.specs.States.{AsksWords, Event, TableState, after_all}
-use Rattle.live_table.proofs.Events.{order_law}
-use Rattle.live_table.proofs.QuerySequence.{steps_rise}
-use Rattle.live_table.proofs.SettleCounts.{shown_counts}
-use Rattle.reply.proofs.Runs.{cut_after}
-use Rattle.column_convert.specs.CachedValues.{AreBegun}
-use Rattle.column_convert.proofs.Again.{asked_again}
+use Rattle.live_table.specs.Calls.{AreLiveQueries}
+use Rattle.live_table.specs.TableView.{AreLiveEventsCutOff, IsAfterLiveEvents, IsRightLiveView, LiveView}
+use Rattle.live_table.specs.TableView.{live_state_with_steps}
+use Rattle.live_table.specs.States.{AsksWords, LiveEvent, LiveState, live_state_after_all}
+use Rattle.live_table.proofs.Events.{live_event_order_law}
+use Rattle.live_table.proofs.QuerySequence.{live_events_never_lower_steps}
+use Rattle.live_table.proofs.SettleCounts.{settled_count_of_live_view}
+use Rattle.reply.proofs.Runs.{inquiry_queries_cut_after_last}
+use Rattle.column_convert.specs.CachedValues.{AreCellQueriesBegun}
+use Rattle.column_convert.proofs.Again.{cell_queries_again_take_no_step}
 
 -- no query was made yet
-pub begun_none : (events : List Event) (s : Shown) (n : ℕ) → IsRightTable s → AreBegun events s s n n
-begun_none events s n right = record {
+pub cell_queries_begun_by_none : (events : List LiveEvent) (s : LiveView) (n : ℕ) → IsRightLiveView s
+    → AreCellQueriesBegun events s s n n
+cell_queries_begun_by_none events s n right = record {
   same_events = refl;
   deck = refl;
   table_right = right;
@@ -24,56 +26,60 @@ begun_none events s n right = record {
 }
 
 -- the words of some texts were queried
-pub begun_texts : (texts : List (List WordUse)) (rest : List Event) (a b : Shown) (n m : ℕ) → b.deck ≡ a.deck
-    → b.reductions ≤ 2 ^ 64 - 1 → IsAfterEvents (map AsksWords texts) a b n m
-    → AreBegun (map AsksWords texts ++ rest) a b n m
-begun_texts texts rest a b n m deck few f = record {
+pub cell_queries_begun_by_texts : (texts : List (List WordUse)) (rest : List LiveEvent) (a b : LiveView) (n m : ℕ)
+    → b.deck ≡ a.deck
+    → b.reductions ≤ 2 ^ 64 - 1 → IsAfterLiveEvents (map AsksWords texts) a b n m
+    → AreCellQueriesBegun (map AsksWords texts ++ rest) a b n m
+cell_queries_begun_by_texts texts rest a b n m deck few f = record {
   same_events =
-      order_law (map AsksWords texts) rest (state_with_steps b m)
-      ∙ ap (after_all rest) (sym (asked_again texts a b n m m few f).stands ∙ f.stands)
-      ∙ sym (order_law (map AsksWords texts) rest (state_with_steps a n));
+      live_event_order_law (map AsksWords texts) rest (live_state_with_steps b m)
+      ∙ ap (live_state_after_all rest) (sym (cell_queries_again_take_no_step texts a b n m m few f).state_after_events
+      ∙ f.state_after_events)
+      ∙ sym (live_event_order_law (map AsksWords texts) rest (live_state_with_steps a n));
   deck = deck;
   table_right = f.is_right;
-  steps_grow = (cut_after (map AsksWords texts) a b n m deck f).steps_least;
-  reductions_bounded = λ can. (((cut_after (map AsksWords texts) a b n m deck f).reductions_counted can).0, few);
+  steps_grow = (inquiry_queries_cut_after_last (map AsksWords texts) a b n m deck f).steps_least;
+  reductions_bounded = λ can.
+      (((inquiry_queries_cut_after_last (map AsksWords texts) a b n m deck f).reductions_counted can).0, few);
 }
 
-module _ (events : List Event) (a b : Shown) (n m : ℕ) (begun : AreBegun events a b n m) where
+module _ (events : List LiveEvent) (a b : LiveView) (n m : ℕ) (begun : AreCellQueriesBegun events a b n m) where
   -- all queries are made afterwards
-  pub begun_follows : (c : Shown) (k : ℕ) → IsAfterEvents events b c m k → IsAfterEvents events a c n k
-  begun_follows c k f = record { stands = f.stands ∙ begun.same_events; is_right = f.is_right }
+  pub begun_follows : (c : LiveView) (k : ℕ) → IsAfterLiveEvents events b c m k → IsAfterLiveEvents events a c n k
+  begun_follows c k f = record { state_after_events = f.state_after_events ∙ begun.same_events; is_right = f.is_right }
 
-  pub begun_cut : (c : Shown) (k : ℕ) → IsCutOff events b c m k → IsCutOff events a c n k
+  pub begun_cut : (c : LiveView) (k : ℕ) → AreLiveEventsCutOff events b c m k → AreLiveEventsCutOff events a c n k
   begun_cut c k f = record {
     deck = f.deck ∙ begun.deck;
     is_right = f.is_right;
     steps_least = let x : n ≤ m = begun.steps_grow in let y : m ≤ k = f.steps_least in omega arith;
-    steps_most = subst (λ (s : TableState). k ≤ s.steps) begun.same_events f.steps_most;
+    steps_most = subst (λ (s : LiveState). k ≤ s.steps) begun.same_events f.steps_most;
     reductions_counted = λ can.
         let was = begun.reductions_bounded can in
         let now = f.reductions_counted was.1 in
         let x : a.reductions ≤ b.reductions = was.0 in
         let y : b.reductions ≤ c.reductions = now.0 in
-        (omega arith, subst (λ (s : TableState). c.reductions ≤ s.reductions) begun.same_events now.1);
+        (omega arith, subst (λ (s : LiveState). c.reductions ≤ s.reductions) begun.same_events now.1);
   }
 
-  pub begun_made : {A : Type 0} (r : Result A AllocError) (c : Shown) (k : ℕ) → AreQueries events r b c m k
-      → AreQueries events r a c n k
+  pub begun_made : {A : Type 0} (r : Result A AllocError) (c : LiveView) (k : ℕ) → AreLiveQueries events r b c m k
+      → AreLiveQueries events r a c n k
   begun_made (Ok x) c k f = begun_follows c k f
   begun_made (Err e) c k f = begun_cut c k f
 
   -- memory runs out before more queries
-  pub begun_stopped : IsCutOff events a b n m
+  pub begun_stopped : AreLiveEventsCutOff events a b n m
   begun_stopped = record {
     deck = begun.deck;
     is_right = begun.table_right;
     steps_least = begun.steps_grow;
     steps_most =
-        let x : m ≤ (after_all events (state_with_steps b m)).steps = steps_rise events (state_with_steps b m) in
-        subst (λ (s : TableState). m ≤ s.steps) begun.same_events x;
+        let x : m ≤ (live_state_after_all events (live_state_with_steps b m)).steps =
+        live_events_never_lower_steps events (live_state_with_steps b m) in
+        subst (λ (s : LiveState). m ≤ s.steps) begun.same_events x;
     reductions_counted = λ can.
         let was = begun.reductions_bounded can in
-        let x : b.reductions ≤ (after_all events (state_with_steps b m)).reductions =
-        (shown_counts events b m was.1).0 in
-        (was.0, subst (λ (s : TableState). b.reductions ≤ s.reductions) begun.same_events x);
+        let x : b.reductions ≤ (live_state_after_all events (live_state_with_steps b m)).reductions =
+        (settled_count_of_live_view events b m was.1).0 in
+        (was.0, subst (λ (s : LiveState). b.reductions ≤ s.reductions) begun.same_events x);
   }

@@ -1,21 +1,20 @@
 -- Cells and rows, from the replies for them.
 use Rattle.std.proofs.Common.{◌≡◌, ◌∙◌, sym, ap, ℕ, Bool, false, List, Some}
 use Rattle.csv.specs.Records.{field_at}
-use Rattle.def_entry.specs.Tables.{Table}
+use Rattle.def_entry.specs.Tables.{EntryTable}
 use Rattle.reply.specs.declared.options.Options.{Options}
 use Rattle.reply.specs.declared.reply.Reply.{Reply}
 use Rattle.reply.specs.Replies.{conversion_queries, conversion_reply}
-use Rattle.column_convert.specs.Cells.{asked_text, cell_options, cell_queries}
-use Rattle.column_convert.specs.Cells.{number_queries, number_reply}
-use Rattle.column_convert.specs.Records.{Fields}
+use Rattle.column_convert.specs.Cells.{cell_conversion_text, cell_options, cell_queries, number_queries, number_reply}
+use Rattle.column_convert.specs.Records.{RecordFields}
 use Rattle.column_convert.specs.Rows.{queries_by, row_queries}
 
-module _ (table : Table) (options : Options) (from to : List ℕ) where
+module _ (table : EntryTable) (options : Options) (from to : List ℕ) where
   -- the reply to a text made from a number
-  module _ (number : List ℕ) (t : Table) (o : Options) (text bytes : List ℕ) (p : t ≡ table)
-      (q : o ≡ cell_options options) (made : text ≡ asked_text t from number) (same : bytes ≡ text) where
-    abbrev bytes_are : bytes ≡ asked_text table from number
-    bytes_are = same ∙ (made ∙ ap (λ (t : Table). asked_text t from number) p)
+  module _ (number : List ℕ) (t : EntryTable) (o : Options) (text bytes : List ℕ) (p : t ≡ table)
+      (q : o ≡ cell_options options) (made : text ≡ cell_conversion_text t from number) (same : bytes ≡ text) where
+    abbrev bytes_are : bytes ≡ cell_conversion_text table from number
+    bytes_are = same ∙ (made ∙ ap (λ (t : EntryTable). cell_conversion_text t from number) p)
 
     pub asked_reply : (reply : Reply) → reply ≡ conversion_reply table o bytes to
         → reply ≡ number_reply table options from to number
@@ -29,7 +28,7 @@ module _ (table : Table) (options : Options) (from to : List ℕ) where
         ∙ ap (λ (b : List ℕ). conversion_queries table (cell_options options) b to) bytes_are
 
   -- the queries of a row with a field in the column
-  pub field_queries : (fields : Fields) (place : ℕ) (headed : Bool) (field : List ℕ) → headed ≡ false
+  pub field_queries : (fields : RecordFields) (place : ℕ) (headed : Bool) (field : List ℕ) → headed ≡ false
       → Some field ≡ field_at fields place
       → cell_queries table options from to field ≡ row_queries table options from to place headed fields
   field_queries fields place headed field first is =

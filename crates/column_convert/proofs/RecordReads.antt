@@ -15,93 +15,99 @@ use Rattle.column_convert.specs.Records.{records_in, records_left}
 Shrinks : List ℕ → Read → Type 0
 Shrinks xs p = (length p.2 < length xs) ⊎ ((p.1 ≡ st.StartRecord) × (p.2 ≡ []))
 
-end_shrinks : (b : Bool) (fields : List (List ℕ)) (p : Read) → cond b (Some (fields, st.StartRecord, [])) None ≡ Some p
+record_end_shrinks : (b : Bool) (fields : List (List ℕ)) (p : Read)
+    → cond b (Some (fields, st.StartRecord, [])) None ≡ Some p
     → Shrinks [] p
 unfolding Shrinks
-end_shrinks true fields p is =
+record_end_shrinks true fields p is =
     inr (ap (λ (q : Read). q.1) (sym (same_Some _ p is)), ap (λ (q : Read). q.2) (sym (same_Some _ p is)))
-end_shrinks false fields p is = cc
+record_end_shrinks false fields p is = cc
 
-shrinks_more : (c : ℕ) (rest : List ℕ) (p : Read) → Shrinks rest p → Shrinks (c ∷ rest) p
+record_read_shrinks_more : (c : ℕ) (rest : List ℕ) (p : Read) → Shrinks rest p → Shrinks (c ∷ rest) p
 unfolding Shrinks
-shrinks_more c rest p h = elim h [ inl less ↦ inl (omega arith) | inr end ↦ inr end ]
+record_read_shrinks_more c rest p h = elim h [ inl less ↦ inl (omega arith) | inr end ↦ inr end ]
 
-step_shrinks : (b : Bool) (c : ℕ) (rest : List ℕ) (now : Read) (later : Option Read) (p : Read) → now.2 ≡ rest
+record_step_shrinks : (b : Bool) (c : ℕ) (rest : List ℕ) (now : Read) (later : Option Read) (p : Read) → now.2 ≡ rest
     → (later ≡ Some p → Shrinks rest p) → cond b (Some now) later ≡ Some p → Shrinks (c ∷ rest) p
 unfolding Shrinks
-step_shrinks true c rest now later p same next is =
+record_step_shrinks true c rest now later p same next is =
     let left : p.2 ≡ rest = ap (λ (q : Read). q.2) (sym (same_Some now p is)) ∙ same in
     inl (rw left (omega arith))
-step_shrinks false c rest now later p same next is = shrinks_more c rest p (next is)
+record_step_shrinks false c rest now later p same next is = record_read_shrinks_more c rest p (next is)
 
-shrinks : (cfg : Config) (s : State) (fields : List (List ℕ)) (field xs : List ℕ) (p : Read)
+record_read_shrinks : (cfg : Config) (s : State) (fields : List (List ℕ)) (field xs : List ℕ) (p : Read)
     → next_record cfg s fields field xs ≡ Some p → Shrinks xs p
 unfolding next_record
-shrinks cfg s fields field [] p is = end_shrinks (ends_at_end s) _ p is
-shrinks cfg s fields field (c ∷ rest) p is = step_shrinks (is_end (step cfg s c).1) c rest _ _ p refl
-    (λ next. shrinks cfg (step cfg s c).0 _ _ rest p next) is
+record_read_shrinks cfg s fields field [] p is = record_end_shrinks (ends_at_end s) _ p is
+record_read_shrinks cfg s fields field (c ∷ rest) p is = record_step_shrinks (is_end (step cfg s c).1) c rest _ _ p refl
+    (λ next. record_read_shrinks cfg (step cfg s c).0 _ _ rest p next) is
 
-none_left : (cfg : Config) (n : ℕ) → records_from cfg n st.StartRecord [] ≡ []
+no_records_at_text_end : (cfg : Config) (n : ℕ) → records_from cfg n st.StartRecord [] ≡ []
 unfolding next_record records_from
-none_left cfg zero = refl
-none_left cfg (suc n) = refl
+no_records_at_text_end cfg zero = refl
+no_records_at_text_end cfg (suc n) = refl
 
-enough_next : (cfg : Config) (n m : ℕ) (s : State) (xs : List ℕ)
+enough_record_turns_for_next : (cfg : Config) (n m : ℕ) (s : State) (xs : List ℕ)
     → ((p : Read) → length p.2 < n → length p.2 < m → records_from cfg n p.1 p.2 ≡ records_from cfg m p.1 p.2)
     → (o : Option Read) → next_record cfg s [] [] xs ≡ o → length xs ≤ n → length xs ≤ m
     → records_next (records_from cfg n) o ≡ records_next (records_from cfg m) o
 unfolding Shrinks
-enough_next cfg n m s xs more None is a b = refl
-enough_next cfg n m s xs more (Some p) is a b = ap (λ rows. p.0 ∷ rows) (elim (shrinks cfg s [] [] xs p is) [
-  | inl less ↦ more p (omega arith) (omega arith)
-  | inr end ↦ rw (end.0, end.1) (none_left cfg n ∙ sym (none_left cfg m))
-])
+enough_record_turns_for_next cfg n m s xs more None is a b = refl
+enough_record_turns_for_next cfg n m s xs more (Some p) is a b =
+    ap (λ rows. p.0 ∷ rows) (elim (record_read_shrinks cfg s [] [] xs p is) [
+      | inl less ↦ more p (omega arith) (omega arith)
+      | inr end ↦ rw (end.0, end.1) (no_records_at_text_end cfg n ∙ sym (no_records_at_text_end cfg m))
+    ])
 
 -- one turn more than the text has bytes is enough
-enough : (cfg : Config) (n m : ℕ) (s : State) (xs : List ℕ) → length xs < n → length xs < m
+enough_record_turns : (cfg : Config) (n m : ℕ) (s : State) (xs : List ℕ) → length xs < n → length xs < m
     → records_from cfg n s xs ≡ records_from cfg m s xs
 unfolding records_from
-enough cfg zero m s xs a b = absurd (omega arith)
-enough cfg (suc n) zero s xs a b = absurd (omega arith)
-enough cfg (suc n) (suc m) s xs a b =
-    enough_next cfg n m s xs (λ p. enough cfg n m p.1 p.2) (next_record cfg s [] [] xs) refl (omega arith) (omega arith)
+enough_record_turns cfg zero m s xs a b = absurd (omega arith)
+enough_record_turns cfg (suc n) zero s xs a b = absurd (omega arith)
+enough_record_turns cfg (suc n) (suc m) s xs a b =
+    enough_record_turns_for_next cfg n m s xs (λ p. enough_record_turns cfg n m p.1 p.2) (next_record cfg s [] [] xs)
+    refl (omega arith) (omega arith)
 
 -- a turn, and the turns after it
-turn : (cfg : Config) (n : ℕ) (s : State) (xs : List ℕ) → records_from cfg (n + 1) s xs ≡ records_next
+first_record_turn : (cfg : Config) (n : ℕ) (s : State) (xs : List ℕ) → records_from cfg (n + 1) s xs ≡ records_next
     (records_from cfg n) (next_record cfg s [] [] xs)
 unfolding records_from
-turn cfg n s xs = let e : n + 1 ≡ suc n = omega arith in ap (λ k. records_from cfg k s xs) e
+first_record_turn cfg n s xs = let e : n + 1 ≡ suc n = omega arith in ap (λ k. records_from cfg k s xs) e
 
-after_turn : (xs : List ℕ) (p : Read) → Shrinks xs p → records_from default_config (length xs) p.1 p.2 ≡ records_in p.1
+records_after_first_turn : (xs : List ℕ) (p : Read) → Shrinks xs p
+    → records_from default_config (length xs) p.1 p.2 ≡ records_in p.1
     p.2
 unfolding Shrinks
-after_turn xs p h = elim h [
-  | inl less ↦ enough default_config (length xs) (length p.2 + 1) p.1 p.2 less (omega arith)
-  | inr end ↦ rw (end.0, end.1) (none_left default_config (length xs) ∙ sym (none_left default_config 1))
+records_after_first_turn xs p h = elim h [
+  | inl less ↦ enough_record_turns default_config (length xs) (length p.2 + 1) p.1 p.2 less (omega arith)
+  | inr end ↦ rw (end.0, end.1) (no_records_at_text_end default_config (length xs)
+      ∙ sym (no_records_at_text_end default_config 1))
 ]
 
-pub rest-more : (s : State) (xs : List ℕ) (p : Read) → next_record default_config s [] [] xs ≡ Some p
+pub records-in-with-next-record : (s : State) (xs : List ℕ) (p : Read) → next_record default_config s [] [] xs ≡ Some p
     → records_in s xs ≡ p.0 ∷ records_in p.1 p.2
-rest-more s xs p is =
-    turn default_config (length xs) s xs ∙ ap (records_next (records_from default_config (length xs))) is
-    ∙ ap (λ rows. p.0 ∷ rows) (after_turn xs p (shrinks default_config s [] [] xs p is))
+records-in-with-next-record s xs p is =
+    first_record_turn default_config (length xs) s xs ∙ ap (records_next (records_from default_config (length xs))) is
+    ∙ ap (λ rows. p.0 ∷ rows) (records_after_first_turn xs p (record_read_shrinks default_config s [] [] xs p is))
 
-pub rest-end : (s : State) (xs : List ℕ) → next_record default_config s [] [] xs ≡ None → records_in s xs ≡ []
-rest-end s xs is = turn default_config (length xs) s xs ∙ ap (records_next (records_from default_config (length xs))) is
+pub records-in-at-end : (s : State) (xs : List ℕ) → next_record default_config s [] [] xs ≡ None → records_in s xs ≡ []
+records-in-at-end s xs is = first_record_turn default_config (length xs) s xs
+    ∙ ap (records_next (records_from default_config (length xs))) is
 
 -- the records if a read found one
-next_is : (s s2 : State) (xs ys : List ℕ) (fields : List (List ℕ)) (o : Option Read)
+records_with_next_found : (s s2 : State) (xs ys : List ℕ) (fields : List (List ℕ)) (o : Option Read)
     → next_record default_config s [] [] xs ≡ o → NextIs o true fields s2 ys
     → records_in s xs ≡ fields ∷ records_in s2 ys
-next_is s s2 xs ys fields None is h = cc
-next_is s s2 xs ys fields (Some p) is h =
-    rest-more s xs p is ∙ sym (rw (h.1, h.2, h.3) refl)
+records_with_next_found s s2 xs ys fields None is h = cc
+records_with_next_found s s2 xs ys fields (Some p) is h =
+    records-in-with-next-record s xs p is ∙ sym (rw (h.1, h.2, h.3) refl)
 
-known : (s s2 : State) (xs : List ℕ) (after : Option (List ℕ)) (fields : List (List ℕ))
+records_with_known_next : (s s2 : State) (xs : List ℕ) (after : Option (List ℕ)) (fields : List (List ℕ))
     → ReadsNext default_config s (Some xs) after true fields s2
     → (ys : List ℕ) × (after ≡ Some ys) × (records_in s xs ≡ fields ∷ records_in s2 ys)
-known s s2 xs None fields h = absurd h
-known s s2 xs (Some ys) fields h = (ys, refl, next_is s s2 xs ys fields _ refl h)
+records_with_known_next s s2 xs None fields h = absurd h
+records_with_known_next s s2 xs (Some ys) fields h = (ys, refl, records_with_next_found s s2 xs ys fields _ refl h)
 
 module _ {R : Type 0} (rem : R → Option (List ℕ)) where
   left-known : (r : Reader R) (s : State) (xs : List ℕ) → reader_state r ≡ s → source_of rem r ≡ Some xs
@@ -114,7 +120,8 @@ module _ {R : Type 0} (rem : R → Option (List ℕ)) where
       → ReadRecord rem old new true fields
       → ((ys : List ℕ) × (source_of rem new ≡ Some ys)) × (records_left rem old ≡ fields ∷ records_left rem new)
   left-more old new fields xs config source read =
-      let got = known old.state new.state xs (pending_of (rem new.rdr) new) fields (rw (config, source) at read.0) in
+      let got = records_with_known_next old.state new.state xs (pending_of (rem new.rdr) new) fields
+      (rw (config, source) at read.0) in
       let after : source_of rem new ≡ Some got.0 = rw read.1 got.1 in (
         (got.0, after),
         left-known old old.state xs refl source ∙ got.2
@@ -124,4 +131,4 @@ module _ {R : Type 0} (rem : R → Option (List ℕ)) where
   -- no record is left if a read found none
   pub left-end : (old : Reader R) (xs : List ℕ) → source_of rem old ≡ Some xs
       → next_record default_config old.state [] [] xs ≡ None → records_left rem old ≡ []
-  left-end old xs source is = left-known old old.state xs refl source ∙ rest-end old.state xs is
+  left-end old xs source is = left-known old old.state xs refl source ∙ records-in-at-end old.state xs is

@@ -1,13 +1,11 @@
 -- The tokens of a derivation before others.
 use Rattle.std.proofs.Common.{◌≡◌, List, ◌∷◌, ◌++◌, refl, ap, ◌∙◌}
 use Rattle.expr_tree.specs.Grammar.{Sum, SumOf, SumRest, NoTerm, NextTerm, Product, ProductOf, ProductRest, NoFactor}
-use Rattle.expr_tree.specs.Grammar.{NextFactor}
-use Rattle.expr_tree.specs.Grammar.{Juxtaposition, Signed, JuxtapositionOf, JuxtapositionRest, NoPower, NextPower}
-use Rattle.expr_tree.specs.Grammar.{Power, Bare, Raised, Exponent, SignedExponent, ExponentOf}
-use Rattle.expr_tree.specs.Grammar.{Atom, NumeralAtom, BarAtom, WordAtom, PowerAtom, CallAtom, InverseAtom, RootAtom}
-use Rattle.expr_tree.specs.Grammar.{GroupAtom}
-use Rattle.expr_tree.specs.Grammar.{sign_token, scale_token, sum, sum_rest, product, product_rest, juxtaposition}
-use Rattle.expr_tree.specs.Grammar.{juxtaposition_rest, power, exponent_tokens, atom}
+use Rattle.expr_tree.specs.Grammar.{NextFactor, Juxtaposition, Signed, JuxtapositionOf, JuxtapositionRest, NoPower}
+use Rattle.expr_tree.specs.Grammar.{NextPower, Power, Bare, Raised, Exponent, SignedExponent, ExponentOf, Atom}
+use Rattle.expr_tree.specs.Grammar.{NumeralAtom, BarAtom, WordAtom, PowerAtom, CallAtom, InverseAtom, RootAtom}
+use Rattle.expr_tree.specs.Grammar.{GroupAtom, sign_token, scale_token, sum, sum_rest, product, product_rest}
+use Rattle.expr_tree.specs.Grammar.{juxtaposition, juxtaposition_rest, power, exponent_tokens, atom}
 use Rattle.expr_tree.specs.Tokens.{Token, Head, Root, Caret, Tilde, Open, Close}
 
 mutual

@@ -7,26 +7,26 @@ use Rattle.csv.specs.declared.writer.Writer.{Writer}
 use Rattle.column_convert.specs.Rows.{ColumnRow}
 
 -- everything that a writer wrote
-abbrev pub text_in : Writer (Vec ℕ Global) → Option (List ℕ)
-text_in writer = text_written (λ (v : Vec ℕ Global). Some v.items) writer
+abbrev pub record_writer_text : Writer (Vec ℕ Global) → Option (List ℕ)
+record_writer_text writer = text_written (λ (v : Vec ℕ Global). Some v.items) writer
 
 -- a writer with the default settings, but for records of any length, between two records
-pub record IsIdleWriter (writer : Writer (Vec ℕ Global)) : Type 0 where
+pub record IsIdleRecordWriter (writer : Writer (Vec ℕ Global)) : Type 0 where
   pub setup : writer_setup writer ≡ with_flexible default_writer true
   pub fields : fields_written writer ≡ 0
   pub nothing_written : has_written writer ≡ false
 
 -- the writer has appended this text
-abbrev pub AppendsText : (before after : Writer (Vec ℕ Global)) → List ℕ → Type 0
-AppendsText before after text = Appends (text_in before) (text_in after) text
+abbrev pub RecordWriterAppends : (before after : Writer (Vec ℕ Global)) → List ℕ → Type 0
+RecordWriterAppends before after text = Appends (record_writer_text before) (record_writer_text after) text
 
 -- the writer has appended this row, and `refused` says whether its cell is an error
 pub record IsRowWritten (before after : Writer (Vec ℕ Global)) (refused : Bool) (row : ColumnRow) : Type 0 where
-  pub appends_text : AppendsText before after row.text
+  pub appends_text : RecordWriterAppends before after row.text
   pub refused_is : refused ≡ row.cell_refused
 
 -- the writer has appended the next row, or nothing if there is none
-abbrev pub IsNextWritten : (before after : Writer (Vec ℕ Global)) → Option Bool → Option ColumnRow → Type 0
-IsNextWritten before after (Some refused) (Some row) = IsRowWritten before after refused row
-IsNextWritten before after None None = after ≡ before
-IsNextWritten before after _ _ = ⊥
+abbrev pub IsNextRowWritten : (before after : Writer (Vec ℕ Global)) → Option Bool → Option ColumnRow → Type 0
+IsNextRowWritten before after (Some refused) (Some row) = IsRowWritten before after refused row
+IsNextRowWritten before after None None = after ≡ before
+IsNextRowWritten before after _ _ = ⊥

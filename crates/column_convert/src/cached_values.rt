@@ -4,11 +4,11 @@ ghost use Rattle.std.specs.Prelude.{◌≡◌, ◌≤◌, ◌-◌, ◌^◌, [], 
 ghost use Rattle.deck.specs.Tables as tables;
 ghost use Rattle.expr_tree.specs.Trees.{syntax};
 ghost use Rattle.expr_tree.specs.Words.{words_in};
-ghost use Rattle.live_table.specs.Answers.{table_answer};
-ghost use Rattle.live_table.specs.Calls.{AreQueries};
+ghost use Rattle.live_table.specs.Answers.{live_table_answer};
+ghost use Rattle.live_table.specs.Calls.{AreLiveQueries};
 ghost use Rattle.live_table.specs.States.{AsksWords};
 ghost use Rattle.column_convert.specs.CachedValues as spec;
-ghost use Rattle.column_convert.specs.Worths.{product_worth};
+ghost use Rattle.column_convert.specs.Worths.{cell_product_worth};
 
 use crate::plain::{PlainTrees, plain_trees};
 use crate::signed_number::Signed;
@@ -37,8 +37,8 @@ pub(crate) fn ask_values<L: Ledger>(
     steps: &mut Steps<L>,
 ) -> Result<Option<Known>, AllocError>
     ensures known { IfOk result (λ known. IfSome known (λ known.
-        spec.AreKnown table.new question.now.from.now question.now.to.now known)) }
-    ensures asked { spec.AreQueriesBegun n.now question.now.from.now question.now.to.now result
+        spec.AreColumnValuesKnown table.new question.now.from.now question.now.to.now known)) }
+    ensures asked { spec.AreCellQueriesOfNumberBegun n.now question.now.from.now question.now.to.now result
         table.old table.new steps.old steps.new }
     ensures deck { table.new.deck ≡ table.old.deck }
 {
@@ -60,11 +60,11 @@ impl PlainTrees {
         n: &Signed,
         steps: &mut Steps<L>,
     ) -> Result<Option<Known>, AllocError>
-        requires { spec.ArePlain (tables.table table.old.deck) question.now.from.now question.now.to.now
-            (syntax self.now.from_tree) (syntax self.now.to_tree) }
+        requires { spec.AreColumnTextsPlain (tables.table_of_deck table.old.deck) question.now.from.now
+            question.now.to.now (syntax self.now.from_tree) (syntax self.now.to_tree) }
         ensures known { IfOk result (λ known. IfSome known (λ known.
-            spec.AreKnown table.new question.now.from.now question.now.to.now known)) }
-        ensures asked { spec.AreQueriesBegun n.now question.now.from.now question.now.to.now result
+            spec.AreColumnValuesKnown table.new question.now.from.now question.now.to.now known)) }
+        ensures asked { spec.AreCellQueriesOfNumberBegun n.now question.now.from.now question.now.to.now result
             table.old table.new steps.old steps.new }
         ensures deck { table.new.deck ≡ table.old.deck }
     {
@@ -92,8 +92,8 @@ fn ask<L: Ledger>(
     steps: &mut Steps<L>,
 ) -> Result<Option<Quantity>, AllocError>
     ensures value { IfOk result (λ value. IfSome value (λ x.
-        table_answer (tables.table table.old.deck) (syntax tree.now) ≡ Ok x)) }
-    ensures query { AreQueries (AsksWords (words_in (syntax tree.now)) ∷ []) result
+        live_table_answer (tables.table_of_deck table.old.deck) (syntax tree.now) ≡ Ok x)) }
+    ensures query { AreLiveQueries (AsksWords (words_in (syntax tree.now)) ∷ []) result
         table.old table.new steps.old steps.new }
     ensures few { table.new.reductions ≤ 2 ^ 64 - 1 }
     ensures deck { table.new.deck ≡ table.old.deck }
@@ -116,7 +116,7 @@ pub(crate) fn product(
     n: &Signed,
     x: &Quantity,
 ) -> Result<Option<Quantity>, AllocError>
-    ensures { IfOk result (λ p. IfSome p (λ p. product_worth n.now.negative n.now.numeral (Ok x.now) ≡ Ok p)) }
+    ensures { IfOk result (λ p. IfSome p (λ p. cell_product_worth n.now.negative n.now.numeral (Ok x.now) ≡ Ok p)) }
 {
     let Ok(value) = n.numeral.value() else {
         return Ok(None);
@@ -131,7 +131,7 @@ pub(crate) fn product(
 
 // Returns the quantity, or its negation if `negative`.
 fn with_sign(negative: bool, x: Quantity) -> Quantity
-    ensures { result ≡ spec.with_sign negative x }
+    ensures { result ≡ spec.signed_cell_value negative x }
 {
     if negative { x.into_negative() } else { x }
 }

@@ -1,12 +1,12 @@
 //! Converting fields to cells.
 
 ghost use Rattle.std.specs.Prelude.{◌≡◌, ◌++◌, IfOk, OnOk, codes};
-ghost use Rattle.def_lines.specs.Blanks.{trim_of};
+ghost use Rattle.def_lines.specs.Blanks.{trimmed_of_blanks};
 ghost use Rattle.deck.specs.Tables as tables;
-ghost use Rattle.live_table.specs.Calls.{AreQueries};
-ghost use Rattle.reply.specs.Options.{IsPrintable};
+ghost use Rattle.live_table.specs.Calls.{AreLiveQueries};
+ghost use Rattle.reply.specs.Options.{AreReplyOptionsPrintable};
 ghost use Rattle.column_convert.specs.Cells as spec;
-ghost use Rattle.column_convert.specs.CachedValues.{IsRemembered, IsSigned};
+ghost use Rattle.column_convert.specs.CachedValues.{IsCellNumber, IsCellRecallRight};
 ghost use Rattle.column_convert.specs.Products as products;
 
 use crate::memory::Memory;
@@ -38,14 +38,17 @@ impl Memory {
         field: &[u8],
         steps: &mut Steps<L>,
     ) -> Result<Cell, AllocError>
-        requires printable { IsPrintable question.now.options.now }
-        requires known { IsRemembered table.old (trim_of question.now.from.now) question.now.to.now self.old }
-        ensures cell { IfOk result (λ cell. cell ≡ spec.cell (tables.table table.old.deck) question.now.options.now
+        requires printable { AreReplyOptionsPrintable question.now.options.now }
+        requires known { IsCellRecallRight table.old (trimmed_of_blanks question.now.from.now) question.now.to.now
+            self.old }
+        ensures cell { IfOk result
+            (λ cell. cell ≡ spec.cell (tables.table_of_deck table.old.deck) question.now.options.now
             question.now.from.now question.now.to.now field.now) }
-        ensures queries { AreQueries (spec.cell_queries (tables.table table.old.deck) question.now.options.now
+        ensures queries { AreLiveQueries
+            (spec.cell_queries (tables.table_of_deck table.old.deck) question.now.options.now
             question.now.from.now question.now.to.now field.now) result table.old table.new steps.old steps.new }
         ensures known { OnOk result
-            (IsRemembered table.new (trim_of question.now.from.now) question.now.to.now self.new) }
+            (IsCellRecallRight table.new (trimmed_of_blanks question.now.from.now) question.now.to.now self.new) }
         ensures deck { table.new.deck ≡ table.old.deck }
     {
         // The cached outcomes are right, even if no query is made.
@@ -73,15 +76,17 @@ impl Memory {
         number: &WrittenNumber<'_>,
         steps: &mut Steps<L>,
     ) -> Result<Cell, AllocError>
-        requires printable { IsPrintable question.now.options.now }
-        requires known { IsRemembered table.old question.now.from.now question.now.to.now self.old }
-        requires signed { IsSigned number.now.text.now number.now.signed }
-        ensures cell { IfOk result (λ cell. cell ≡ spec.cell_of (spec.number_reply (tables.table table.old.deck)
+        requires printable { AreReplyOptionsPrintable question.now.options.now }
+        requires known { IsCellRecallRight table.old question.now.from.now question.now.to.now self.old }
+        requires signed { IsCellNumber number.now.text.now number.now.signed }
+        ensures cell { IfOk result
+            (λ cell. cell ≡ spec.cell_of_reply (spec.number_reply (tables.table_of_deck table.old.deck)
             question.now.options.now question.now.from.now question.now.to.now number.now.text.now)) }
-        ensures queries { AreQueries (spec.number_queries (tables.table table.old.deck) question.now.options.now
+        ensures queries { AreLiveQueries
+            (spec.number_queries (tables.table_of_deck table.old.deck) question.now.options.now
             question.now.from.now question.now.to.now number.now.text.now)
             result table.old table.new steps.old steps.new }
-        ensures known { OnOk result (IsRemembered table.new question.now.from.now question.now.to.now self.new) }
+        ensures known { OnOk result (IsCellRecallRight table.new question.now.from.now question.now.to.now self.new) }
         ensures deck { table.new.deck ≡ table.old.deck }
     {
         self.recall(alloc, table, question, &number.signed, steps)?;
@@ -101,10 +106,11 @@ fn number_cell<L: Ledger>(
     number: &[u8],
     steps: &mut Steps<L>,
 ) -> Result<Cell, AllocError>
-    requires { IsPrintable question.now.options.now }
-    ensures cell { IfOk result (λ cell. cell ≡ spec.cell_of (spec.number_reply (tables.table table.old.deck)
+    requires { AreReplyOptionsPrintable question.now.options.now }
+    ensures cell { IfOk result
+        (λ cell. cell ≡ spec.cell_of_reply (spec.number_reply (tables.table_of_deck table.old.deck)
         question.now.options.now question.now.from.now question.now.to.now number.now)) }
-    ensures queries { AreQueries (spec.number_queries (tables.table table.old.deck) question.now.options.now
+    ensures queries { AreLiveQueries (spec.number_queries (tables.table_of_deck table.old.deck) question.now.options.now
         question.now.from.now question.now.to.now number.now) result table.old table.new steps.old steps.new }
     ensures deck { table.new.deck ≡ table.old.deck }
 {
@@ -124,7 +130,7 @@ fn number_cell<L: Ledger>(
 
 // Returns whether a text is a numeral, perhaps with a minus sign before it.
 fn is_number(text: &[u8]) -> bool
-    ensures { result ≡ spec.is_signed_numeral text.now }
+    ensures { result ≡ spec.is_signed_cell_numeral text.now }
 {
     !matches!(
         read_numeral(behind_minus(text)),
@@ -135,7 +141,8 @@ fn is_number(text: &[u8]) -> bool
 // Returns the text to convert for a number: the call of the function FROM with the number, if FROM names a function, or
 // else the number times FROM.
 fn asked_text(alloc: Global, deck: &Deck, from: &[u8], number: &[u8]) -> Result<Text, AllocError>
-    ensures { IfOk result (λ text. text ≡ spec.asked_text (tables.table deck.now) from.now number.now) }
+    ensures { IfOk result (λ text. text
+        ≡ spec.cell_conversion_text (tables.table_of_deck deck.now) from.now number.now) }
 {
     if deck.entry(Kind::Func, from).is_some() {
         call_text(alloc, from, number)
@@ -158,7 +165,7 @@ fn call_text(alloc: Global, name: &[u8], number: &[u8]) -> Result<Text, AllocErr
 
 /// Returns the text of a number times FROM. The only error is running out of memory.
 pub(crate) fn product_text(alloc: Global, number: &[u8], from: &[u8]) -> Result<Text, AllocError>
-    ensures { IfOk result (λ text. text ≡ products.product_text number.now from.now) }
+    ensures { IfOk result (λ text. text ≡ products.cell_product_text number.now from.now) }
 {
     let mut text = Vec::new(alloc);
     text.extend_from_slice(b"(".as_slice())?;
@@ -171,9 +178,9 @@ pub(crate) fn product_text(alloc: Global, number: &[u8], from: &[u8]) -> Result<
 
 /// Returns the options of the reply in a cell.
 pub(crate) fn cell_options(options: &Options) -> Options
-    requires { IsPrintable options.now }
+    requires { AreReplyOptionsPrintable options.now }
     ensures is { result ≡ spec.cell_options options.now }
-    ensures printable { IsPrintable result }
+    ensures printable { AreReplyOptionsPrintable result }
 {
     Options {
         digits: options.digits,
@@ -189,7 +196,7 @@ pub(crate) fn cell_options(options: &Options) -> Options
 
 // Returns the cell of a field that is not a number.
 fn not_a_number(alloc: Global) -> Result<Cell, AllocError>
-    ensures { IfOk result (λ cell. cell ≡ spec.not_a_number) }
+    ensures { IfOk result (λ cell. cell ≡ spec.cell_not_a_number) }
 {
     let text = Text::from_bytes(alloc, b"error: not a number")?;
     Ok(Cell {
@@ -200,7 +207,7 @@ fn not_a_number(alloc: Global) -> Result<Cell, AllocError>
 
 /// Returns the cell with the first line of a reply. The only error is running out of memory.
 pub(crate) fn cell_of(alloc: Global, reply: &Reply) -> Result<Cell, AllocError>
-    ensures { IfOk result (λ cell. cell ≡ spec.cell_of reply.now) }
+    ensures { IfOk result (λ cell. cell ≡ spec.cell_of_reply reply.now) }
 {
     let mut text = Vec::from_slice(alloc, error_front(reply.refused))?;
     text.extend_from_slice(first_line(reply.text.as_bytes()))?;
@@ -212,7 +219,7 @@ pub(crate) fn cell_of(alloc: Global, reply: &Reply) -> Result<Cell, AllocError>
 
 // Returns the text before a refused reply, which is empty for other replies.
 fn error_front(refused: bool) -> &'static [u8]
-    ensures { result.now ≡ spec.error_front refused }
+    ensures { result.now ≡ spec.cell_error_front refused }
 {
     if refused {
         b"error: ".as_slice()
@@ -223,7 +230,7 @@ fn error_front(refused: bool) -> &'static [u8]
 
 // Returns the text up to the first line feed, or the whole text if it has none.
 fn first_line(text: &[u8]) -> &[u8]
-    ensures { result.now ≡ spec.first_line text.now }
+    ensures { result.now ≡ spec.first_cell_line text.now }
 {
     match cut_at(text, b'\n') {
         Some((line, _)) => line,

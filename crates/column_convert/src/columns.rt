@@ -2,13 +2,13 @@
 
 ghost use Rattle.std.specs.Prelude.{◌≡◌, ◌≤◌, ◌||◌, IfOk, OnOk, Some};
 ghost use Rattle.deck.specs.Tables as tables;
-ghost use Rattle.live_table.specs.Calls.{AreQueries};
-ghost use Rattle.reply.specs.Options.{IsPrintable};
-ghost use Rattle.column_convert.specs.Blocks.{block_of, first_records, input_after};
-ghost use Rattle.column_convert.specs.Inputs.{input_of, rest_of_input};
-ghost use Rattle.column_convert.specs.Drafts.{IsReady};
+ghost use Rattle.live_table.specs.Calls.{AreLiveQueries};
+ghost use Rattle.reply.specs.Options.{AreReplyOptionsPrintable};
+ghost use Rattle.column_convert.specs.Blocks.{block_of_rows, column_input_after, first_records};
+ghost use Rattle.column_convert.specs.Inputs.{column_input_of_text, rest_of_column_input};
+ghost use Rattle.column_convert.specs.Drafts.{IsRowDraftReady};
 ghost use Rattle.column_convert.specs.Rows as spec;
-ghost use Rattle.column_convert.specs.RecordWriter.{IsNextWritten, text_in};
+ghost use Rattle.column_convert.specs.RecordWriter.{IsNextRowWritten, record_writer_text};
 
 use crate::block::Block;
 use crate::draft::Draft;
@@ -36,11 +36,11 @@ pub struct Columns {
 }
 
 impl Model for Columns {
-    ghost use Rattle.column_convert.specs.Inputs.{Input, input_code};
+    ghost use Rattle.column_convert.specs.Inputs.{ColumnInput, column_input_code};
 
-    ghost Value = { Input };
+    ghost Value = { ColumnInput };
 
-    ghost coded = { input_code };
+    ghost coded = { column_input_code };
 
     ghost view = { λ c. record { records = c.records; place = c.place; has_header = c.headed } };
 }
@@ -55,7 +55,7 @@ impl Columns {
         header: bool,
     ) -> Result<Columns, AllocError>
         requires { 1 ≤ column }
-        ensures { IfOk result (λ columns. columns ≡ input_of input column header) }
+        ensures { IfOk result (λ columns. columns ≡ column_input_of_text input column header) }
     {
         Ok(Columns {
             records: Records::new(alloc, input.into_bytes()),
@@ -78,13 +78,13 @@ impl Columns {
         most: usize,
         steps: &mut Steps<L>,
     ) -> Result<Block, AllocError>
-        requires { IsPrintable question.now.options.now }
-        ensures block { IfOk result (λ block. block ≡ block_of
-            (spec.rows (tables.table table.old.deck) question.now.options.now question.now.from.now question.now.to.now
-            (first_records most self.old))) }
-        ensures left { OnOk result (self.new ≡ input_after most self.old) }
-        ensures queries { AreQueries
-            (spec.queries (tables.table table.old.deck) question.now.options.now question.now.from.now
+        requires { AreReplyOptionsPrintable question.now.options.now }
+        ensures block { IfOk result (λ block. block ≡ block_of_rows
+            (spec.rows (tables.table_of_deck table.old.deck) question.now.options.now question.now.from.now
+            question.now.to.now (first_records most self.old))) }
+        ensures left { OnOk result (self.new ≡ column_input_after most self.old) }
+        ensures queries { AreLiveQueries
+            (spec.queries (tables.table_of_deck table.old.deck) question.now.options.now question.now.from.now
             question.now.to.now (first_records most self.old)) result table.old table.new steps.old steps.new }
         ensures deck { table.new.deck ≡ table.old.deck }
     {
@@ -116,15 +116,15 @@ impl Columns {
         draft: &mut Draft,
         steps: &mut Steps<L>,
     ) -> Result<Option<bool>, AllocError>
-        requires printable { IsPrintable question.now.options.now }
-        requires ready { IsReady table.old question.now draft.old }
-        ensures ready { OnOk result (IsReady table.new question.now draft.new) }
-        ensures row { IfOk result (λ refused. IsNextWritten draft.old.writer draft.new.writer refused
-            (spec.next_row (tables.table table.old.deck) question.now.options.now question.now.from.now
+        requires printable { AreReplyOptionsPrintable question.now.options.now }
+        requires ready { IsRowDraftReady table.old question.now draft.old }
+        ensures ready { OnOk result (IsRowDraftReady table.new question.now draft.new) }
+        ensures row { IfOk result (λ refused. IsNextRowWritten draft.old.writer draft.new.writer refused
+            (spec.next_row (tables.table_of_deck table.old.deck) question.now.options.now question.now.from.now
             question.now.to.now self.old)) }
-        ensures left { OnOk result (self.new ≡ rest_of_input self.old) }
-        ensures queries { AreQueries
-            (spec.next_queries (tables.table table.old.deck) question.now.options.now question.now.from.now
+        ensures left { OnOk result (self.new ≡ rest_of_column_input self.old) }
+        ensures queries { AreLiveQueries
+            (spec.next_queries (tables.table_of_deck table.old.deck) question.now.options.now question.now.from.now
             question.now.to.now self.old) result table.old table.new steps.old steps.new }
         ensures deck { table.new.deck ≡ table.old.deck }
     {
@@ -133,12 +133,12 @@ impl Columns {
         if !self.records.read(&mut self.last)? {
             return Ok(None);
         }
-        let record = ColumnRecord {
+        let column_record = ColumnRecord {
             fields: &self.last,
             place: self.place,
             headed: self.headed,
         };
-        let refused = draft.write_row(alloc, table, question, &record, steps)?;
+        let refused = draft.write_row(alloc, table, question, &column_record, steps)?;
         self.headed = false;
         Ok(Some(refused))
     }
@@ -154,7 +154,7 @@ fn either(a: bool, b: bool) -> bool
 // Returns the block of the rows in a draft, given the number of rows and whether a cell of them is an error.
 fn close_draft(draft: Draft, count: usize, any: bool) -> Result<Block, AllocError>
     ensures { IfOk result (λ block.
-        (text_in draft.writer ≡ Some block.text) × (block.rows ≡ count) × (block.refused ≡ any)) }
+        (record_writer_text draft.writer ≡ Some block.text) × (block.rows ≡ count) × (block.refused ≡ any)) }
 {
     let Draft {
         writer,

@@ -1,7 +1,7 @@
 //! The values remembered between rows.
 
 ghost use Rattle.std.specs.Prelude.{◌≡◌, IfOk, IfSome, OnOk};
-ghost use Rattle.reply.specs.Options.{IsPrintable};
+ghost use Rattle.reply.specs.Options.{AreReplyOptionsPrintable};
 ghost use Rattle.column_convert.specs.CachedValues as spec;
 
 use crate::cached_values::{Known, ask_values, product};
@@ -25,7 +25,7 @@ pub(crate) struct Memory {
 impl Memory {
     /// Returns an empty memory.
     pub(crate) fn new() -> Memory
-        ensures { spec.IsEmpty result }
+        ensures { spec.IsCellRecallEmpty result }
     {
         Memory {
             known: None,
@@ -35,7 +35,7 @@ impl Memory {
 
     /// Forgets the values, because other queries follow.
     pub(crate) fn forget(&mut self)
-        ensures { spec.IsEmpty self.new }
+        ensures { spec.IsCellRecallEmpty self.new }
     {
         self.known = None;
     }
@@ -50,9 +50,10 @@ impl Memory {
         n: &Signed,
         steps: &mut Steps<L>,
     ) -> Result<(), AllocError>
-        requires { spec.IsRemembered table.old question.now.from.now question.now.to.now self.old }
-        ensures known { OnOk result (spec.IsRemembered table.new question.now.from.now question.now.to.now self.new) }
-        ensures asked { spec.AreQueriesBegun n.now question.now.from.now question.now.to.now result
+        requires { spec.IsCellRecallRight table.old question.now.from.now question.now.to.now self.old }
+        ensures known { OnOk result
+            (spec.IsCellRecallRight table.new question.now.from.now question.now.to.now self.new) }
+        ensures asked { spec.AreCellQueriesOfNumberBegun n.now question.now.from.now question.now.to.now result
             table.old table.new steps.old steps.new }
         ensures deck { table.new.deck ≡ table.old.deck }
     {
@@ -75,7 +76,7 @@ impl Memory {
         question: &Question<'_>,
         number: &WrittenNumber<'_>,
     ) -> Result<Option<Cell>, AllocError>
-        requires { IsPrintable question.now.options.now }
+        requires { AreReplyOptionsPrintable question.now.options.now }
         ensures { IfOk result (λ cell. IfSome cell (λ cell.
             spec.IsRememberedCell question.now.options.now self.now question.now.from.now question.now.to.now
             number.now.text.now number.now.signed cell)) }
@@ -94,7 +95,7 @@ fn known_cell(
     question: &Question<'_>,
     number: &WrittenNumber<'_>,
 ) -> Result<Option<Cell>, AllocError>
-    requires { IsPrintable question.now.options.now }
+    requires { AreReplyOptionsPrintable question.now.options.now }
     ensures { IfOk result (λ cell. IfSome cell (λ cell.
         spec.IsKnownCell question.now.options.now known.now question.now.from.now question.now.to.now
         number.now.text.now number.now.signed cell)) }

@@ -4,7 +4,7 @@ ghost use Rattle.std.specs.Prelude.{◌≡◌, IfOk, IfSome, IsTrue, codes};
 ghost use Rattle.deck.specs.Tables as tables;
 ghost use Rattle.expr_tree.specs.Trees.{syntax};
 ghost use Rattle.column_convert.specs.CachedValues as spec;
-ghost use Rattle.column_convert.specs.Products.{signed_text};
+ghost use Rattle.column_convert.specs.Products.{signed_cell_text};
 
 use crate::cell::product_text;
 use deck::Deck;
@@ -29,7 +29,8 @@ pub(crate) fn plain_trees(
     from: &[u8],
     to: &[u8],
 ) -> Result<Option<PlainTrees>, AllocError>
-    ensures { IfOk result (λ trees. IfSome trees (λ trees. spec.ArePlain (tables.table deck.now) from.now to.now
+    ensures { IfOk result (λ trees. IfSome trees
+        (λ trees. spec.AreColumnTextsPlain (tables.table_of_deck deck.now) from.now to.now
         (syntax trees.from_tree) (syntax trees.to_tree))) }
 {
     let to = trim(to);
@@ -50,7 +51,7 @@ pub(crate) fn plain_trees(
 
 // Returns whether neither text is a function and TO is not a list.
 fn are_plain(deck: &Deck, from: &[u8], to: &[u8]) -> bool
-    ensures { result ≡ spec.are_plain (tables.table deck.now) from.now to.now }
+    ensures { result ≡ spec.are_column_texts_plain (tables.table_of_deck deck.now) from.now to.now }
 {
     if deck.entry(Kind::Func, from).is_some() {
         return false;
@@ -66,7 +67,7 @@ fn are_plain(deck: &Deck, from: &[u8], to: &[u8]) -> bool
 
 // Returns whether a positive and a negative number times FROM are expressions.
 fn has_products(alloc: Global, from: &[u8]) -> Result<bool, AllocError>
-    ensures { IfOk result (λ has. IsTrue has → spec.HasProducts from.now) }
+    ensures { IfOk result (λ has. IsTrue has → spec.HasCellProducts from.now) }
 {
     if !has_product(alloc, false, from)? {
         return Ok(false);
@@ -76,7 +77,7 @@ fn has_products(alloc: Global, from: &[u8]) -> Result<bool, AllocError>
 
 // Returns whether 1 or -1 times FROM is an expression.
 fn has_product(alloc: Global, negative: bool, from: &[u8]) -> Result<bool, AllocError>
-    ensures { IfOk result (λ has. IsTrue has → spec.HasProduct negative from.now) }
+    ensures { IfOk result (λ has. IsTrue has → spec.HasCellProduct negative from.now) }
 {
     let text = product_text(alloc, one(negative), from)?;
     let tree = tree_in(alloc, text.as_bytes())?;
@@ -85,7 +86,7 @@ fn has_product(alloc: Global, negative: bool, from: &[u8]) -> Result<bool, Alloc
 
 // 1 or -1.
 fn one(negative: bool) -> &'static [u8]
-    ensures { result.now ≡ signed_text negative (codes "1") }
+    ensures { result.now ≡ signed_cell_text negative (codes "1") }
 {
     if negative {
         b"-1".as_slice()
@@ -96,7 +97,7 @@ fn one(negative: bool) -> &'static [u8]
 
 // Returns the tree of a text, or `None` if it is not an expression.
 fn tree_in(alloc: Global, text: &[u8]) -> Result<Option<Tree>, AllocError>
-    ensures { IfOk result (λ tree. IfSome tree (λ tree. spec.IsParsedAs text.now (syntax tree))) }
+    ensures { IfOk result (λ tree. IfSome tree (λ tree. spec.IsColumnTextParsedAs text.now (syntax tree))) }
 {
     match parse_expr(alloc, text, None) {
         Ok(tree) => Ok(Some(tree)),

@@ -3,7 +3,7 @@
 ghost use Rattle.std.specs.Prelude.{◌≡◌, [], IfOk, OnOk, Some};
 ghost use Rattle.csv.specs.Records.{fields_of};
 ghost use Rattle.csv.specs.Writing.{default_writer, row_text};
-ghost use Rattle.column_convert.specs.RecordWriter.{AppendsText, IsIdleWriter, text_in};
+ghost use Rattle.column_convert.specs.RecordWriter.{IsIdleRecordWriter, RecordWriterAppends, record_writer_text};
 
 use csv::{ByteRecord, Writer, WriterBuilder};
 use std::alloc::{AllocError, Global};
@@ -11,8 +11,8 @@ use units_io::Text;
 
 /// Returns a writer for records of any length, which holds what it writes.
 pub(crate) fn new_writer(alloc: Global) -> Writer<Vec<u8>>
-    ensures idle { IsIdleWriter result }
-    ensures empty { text_in result ≡ Some [] }
+    ensures idle { IsIdleRecordWriter result }
+    ensures empty { record_writer_text result ≡ Some [] }
 {
     WriterBuilder::new()
         .flexible(true)
@@ -24,9 +24,10 @@ pub(crate) fn write_record(
     writer: &mut Writer<Vec<u8>>,
     fields: &ByteRecord,
 ) -> Result<(), AllocError>
-    requires { IsIdleWriter writer.old }
-    ensures idle { OnOk result (IsIdleWriter writer.new) }
-    ensures text { OnOk result (AppendsText writer.old writer.new (row_text default_writer (fields_of fields.now))) }
+    requires { IsIdleRecordWriter writer.old }
+    ensures idle { OnOk result (IsIdleRecordWriter writer.new) }
+    ensures text { OnOk result
+        (RecordWriterAppends writer.old writer.new (row_text default_writer (fields_of fields.now))) }
 {
     if writer.write_byte_record(fields).is_err() {
         return Err(AllocError);
@@ -36,7 +37,7 @@ pub(crate) fn write_record(
 
 /// Returns everything that was written. The only error is running out of memory.
 pub(crate) fn finish_writer(writer: Writer<Vec<u8>>) -> Result<Text, AllocError>
-    ensures { IfOk result (λ text. text_in writer ≡ Some text) }
+    ensures { IfOk result (λ text. record_writer_text writer ≡ Some text) }
 {
     match writer.into_inner() {
         Ok(text) => Ok(Text::from(text)),

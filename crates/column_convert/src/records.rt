@@ -19,13 +19,13 @@ pub(crate) struct Records {
 impl Model for Records {
     ghost use Rattle.std.specs.Prelude.{◌≡◌, List, Some, [], false, if◌then◌else◌};
     ghost use Rattle.std.specs.Io.Cursor.{cursor_remaining};
-    ghost use Rattle.column_convert.specs.Records.{Fields, IsPlain, records_left};
+    ghost use Rattle.column_convert.specs.Records.{IsPlainRecordReader, RecordFields, records_left};
 
-    ghost Value = { List Fields };
+    ghost Value = { List RecordFields };
 
     ghost view = { λ r. if r.is_done then [] else records_left (cursor_remaining (λ v. Some v.items)) r.reader };
 
-    ghost invariant = { λ r. r.is_done ≡ false → IsPlain (cursor_remaining (λ v. Some v.items)) r.reader };
+    ghost invariant = { λ r. r.is_done ≡ false → IsPlainRecordReader (cursor_remaining (λ v. Some v.items)) r.reader };
 }
 
 impl Records {

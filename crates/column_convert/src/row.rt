@@ -3,11 +3,11 @@
 ghost use Rattle.std.specs.Prelude.{◌≡◌, ◌<◌, [], IfOk, OnOk, get_or, length, slice_set};
 ghost use Rattle.csv.specs.Records.{fields_of};
 ghost use Rattle.deck.specs.Tables as tables;
-ghost use Rattle.live_table.specs.Calls.{AreQueries};
-ghost use Rattle.reply.specs.Options.{IsPrintable};
-ghost use Rattle.column_convert.specs.Drafts.{IsReady};
+ghost use Rattle.live_table.specs.Calls.{AreLiveQueries};
+ghost use Rattle.reply.specs.Options.{AreReplyOptionsPrintable};
+ghost use Rattle.column_convert.specs.Drafts.{IsRowDraftReady};
 ghost use Rattle.column_convert.specs.Rows as spec;
-ghost use Rattle.column_convert.specs.RecordWriter.{IsIdleWriter, IsRowWritten};
+ghost use Rattle.column_convert.specs.RecordWriter.{IsIdleRecordWriter, IsRowWritten};
 
 use crate::cell::Cell;
 use crate::draft::Draft;
@@ -36,28 +36,30 @@ impl Draft {
         alloc: Global,
         table: &mut LiveTable,
         question: &Question<'_>,
-        record: &ColumnRecord<'_>,
+        column_record: &ColumnRecord<'_>,
         steps: &mut Steps<L>,
     ) -> Result<bool, AllocError>
-        requires printable { IsPrintable question.now.options.now }
-        requires ready { IsReady table.old question.now self.old }
-        ensures ready { OnOk result (IsReady table.new question.now self.new) }
+        requires printable { AreReplyOptionsPrintable question.now.options.now }
+        requires ready { IsRowDraftReady table.old question.now self.old }
+        ensures ready { OnOk result (IsRowDraftReady table.new question.now self.new) }
         ensures row { IfOk result (λ refused. IsRowWritten self.old.writer self.new.writer refused
-            (spec.row (tables.table table.old.deck) question.now.options.now question.now.from.now
-            question.now.to.now record.now.place record.now.headed (fields_of record.now.fields.now))) }
-        ensures queries { AreQueries
-            (spec.row_queries (tables.table table.old.deck) question.now.options.now question.now.from.now
-            question.now.to.now record.now.place record.now.headed (fields_of record.now.fields.now))
+            (spec.row (tables.table_of_deck table.old.deck) question.now.options.now question.now.from.now
+            question.now.to.now column_record.now.place column_record.now.headed
+            (fields_of column_record.now.fields.now))) }
+        ensures queries { AreLiveQueries
+            (spec.row_queries (tables.table_of_deck table.old.deck) question.now.options.now question.now.from.now
+            question.now.to.now column_record.now.place column_record.now.headed
+            (fields_of column_record.now.fields.now))
             result table.old table.new steps.old steps.new }
         ensures deck { table.new.deck ≡ table.old.deck }
     {
         // The cached outcomes are right, even if no query is made.
         table.outcomes_are_right();
-        let fields = record.fields;
-        if record.headed {
+        let fields = column_record.fields;
+        if column_record.headed {
             return write_kept(&mut self.writer, fields);
         }
-        match fields.get(record.place) {
+        match fields.get(column_record.place) {
             Some(field) => {
                 let cell = self
                     .memory
@@ -66,7 +68,7 @@ impl Draft {
                     &mut self.writer,
                     &mut self.changed,
                     fields,
-                    record.place,
+                    column_record.place,
                     &cell,
                 )
             }
@@ -77,10 +79,10 @@ impl Draft {
 
 // Writes a record unchanged.
 fn write_kept(writer: &mut Writer<Vec<u8>>, fields: &ByteRecord) -> Result<bool, AllocError>
-    requires { IsIdleWriter writer.old }
-    ensures idle { OnOk result (IsIdleWriter writer.new) }
+    requires { IsIdleRecordWriter writer.old }
+    ensures idle { OnOk result (IsIdleRecordWriter writer.new) }
     ensures row { IfOk result (λ refused.
-        IsRowWritten writer.old writer.new refused (spec.kept_row (fields_of fields.now))) }
+        IsRowWritten writer.old writer.new refused (spec.row_of_unchanged_record (fields_of fields.now))) }
 {
     write_record(writer, fields)?;
     Ok(false)
@@ -94,9 +96,9 @@ fn write_cell(
     place: usize,
     cell: &Cell,
 ) -> Result<bool, AllocError>
-    requires idle { IsIdleWriter writer.old }
+    requires idle { IsIdleRecordWriter writer.old }
     requires place { place < length (fields_of fields.now) }
-    ensures idle { OnOk result (IsIdleWriter writer.new) }
+    ensures idle { OnOk result (IsIdleRecordWriter writer.new) }
     ensures row { IfOk result (λ refused.
         IsRowWritten writer.old writer.new refused (spec.cell_row (fields_of fields.now) place cell.now)) }
 {

@@ -2,8 +2,8 @@
 
 ghost use Rattle.std.specs.Prelude.{◌≡◌, IfSome};
 ghost use Rattle.column_convert.specs.Cells as cells;
-ghost use Rattle.column_convert.specs.CachedValues.{IsSigned};
-ghost use Rattle.column_convert.specs.Products.{signed_text};
+ghost use Rattle.column_convert.specs.CachedValues.{IsCellNumber};
+ghost use Rattle.column_convert.specs.Products.{signed_cell_text};
 
 use frac128::{Numeral, read_numeral};
 
@@ -24,7 +24,7 @@ pub(crate) struct WrittenNumber<'a> {
 impl Signed {
     /// Reads a text as a number. Returns `None` if it is not one, or if its numeral is past the limits.
     pub(crate) fn read_signed(text: &[u8]) -> Option<Signed>
-        ensures { IfSome result (λ n. IsSigned text.now n) }
+        ensures { IfSome result (λ n. IsCellNumber text.now n) }
     {
         match read_numeral(behind_minus(text)) {
             Ok(numeral) => Some(Signed {
@@ -38,7 +38,7 @@ impl Signed {
 
 /// Returns the text after a minus sign at its front, or the whole text if it has none there.
 pub(crate) fn behind_minus(text: &[u8]) -> &[u8]
-    ensures { result.now ≡ cells.behind_minus text.now }
+    ensures { result.now ≡ cells.cell_text_after_minus text.now }
 {
     let Some((first, rest)) = text.split_first() else {
         return text;
@@ -48,7 +48,7 @@ pub(crate) fn behind_minus(text: &[u8]) -> &[u8]
 
 // Returns whether a text begins with a minus sign.
 fn has_minus(text: &[u8]) -> bool
-    ensures { text.now ≡ signed_text result (cells.behind_minus text.now) }
+    ensures { text.now ≡ signed_cell_text result (cells.cell_text_after_minus text.now) }
 {
     let Some((first, _)) = text.split_first() else {
         return false;

@@ -4,14 +4,14 @@ use Rattle.column_run.specs.declared.end.ColumnEnd.{ColumnEnd}
 use Rattle.column_run.specs.declared.end.ColumnEnd.TheVariants.{ReadFault, WriteFault, NoMemory, InputTooLong}
 
 -- the input was not read in full
-abbrev pub IsInputCutOff : ColumnEnd → Type 0
-IsInputCutOff ReadFault = ⊤
-IsInputCutOff InputTooLong = ⊤
-IsInputCutOff NoMemory = ⊤
-IsInputCutOff end = ⊥
+abbrev pub IsColumnRunInputCutOff : ColumnEnd → Type 0
+IsColumnRunInputCutOff ReadFault = ⊤
+IsColumnRunInputCutOff InputTooLong = ⊤
+IsColumnRunInputCutOff NoMemory = ⊤
+IsColumnRunInputCutOff end = ⊥
 
 -- the rows were not written in full
-abbrev pub IsStopped : ColumnEnd → Type 0
-IsStopped WriteFault = ⊤
-IsStopped NoMemory = ⊤
-IsStopped end = ⊥
+abbrev pub IsColumnRunStopped : ColumnEnd → Type 0
+IsColumnRunStopped WriteFault = ⊤
+IsColumnRunStopped NoMemory = ⊤
+IsColumnRunStopped end = ⊥

@@ -1,21 +1,21 @@
 -- The rows of a column to be converted.
 use Rattle.std.specs.Prelude.{ℕ, List}
-use Rattle.deck.specs.Tables.{table}
-use Rattle.live_table.specs.States.{Event}
-use Rattle.column_convert.specs.Inputs.{Input, input_of}
+use Rattle.deck.specs.Tables.{table_of_deck}
+use Rattle.live_table.specs.States.{LiveEvent}
+use Rattle.column_convert.specs.Inputs.{ColumnInput, column_input_of_text}
 use Rattle.column_convert.specs.Rows.{ColumnRow, queries, rows}
 use Rattle.column_run.specs.declared.task.ColumnTask.{ColumnTask}
 
 -- the rows of these records, and the queries that their cells make
-abbrev pub rows_over : ColumnTask → Input → List ColumnRow
-rows_over task records = rows (table task.table.deck) task.options task.from task.to records
+abbrev pub column_run_rows : ColumnTask → ColumnInput → List ColumnRow
+column_run_rows task records = rows (table_of_deck task.table.deck) task.options task.from task.to records
 
-abbrev pub queries_over : ColumnTask → Input → List Event
-queries_over task records = queries (table task.table.deck) task.options task.from task.to records
+abbrev pub column_run_queries : ColumnTask → ColumnInput → List LiveEvent
+column_run_queries task records = queries (table_of_deck task.table.deck) task.options task.from task.to records
 
 -- the rows of an input of these bytes, and the queries that their cells make
-abbrev pub task_rows : ColumnTask → (bytes : List ℕ) → List ColumnRow
-task_rows task bytes = rows_over task (input_of bytes task.column task.header)
+abbrev pub column_run_rows_of_bytes : ColumnTask → (bytes : List ℕ) → List ColumnRow
+column_run_rows_of_bytes task bytes = column_run_rows task (column_input_of_text bytes task.column task.header)
 
-abbrev pub task_queries : ColumnTask → (bytes : List ℕ) → List Event
-task_queries task bytes = queries_over task (input_of bytes task.column task.header)
+abbrev pub column_run_queries_of_bytes : ColumnTask → (bytes : List ℕ) → List LiveEvent
+column_run_queries_of_bytes task bytes = column_run_queries task (column_input_of_text bytes task.column task.header)

@@ -1,9 +1,9 @@
 //! Column input, which is read in full before any row is written.
 
 ghost use Rattle.std.specs.Prelude.{◌≡◌, ◌≤◌, ◌<◌, [], List, ℕ, Some, IfErr, IfOk, IsErrOf, OnOk, length};
-ghost use Rattle.units_io.specs.Faults.{CountRose};
-ghost use Rattle.session.specs.Outside.{TookMoreThan};
-ghost use Rattle.column_run.specs.Endings.{IsInputCutOff};
+ghost use Rattle.units_io.specs.Faults.{HasIoCountRisen};
+ghost use Rattle.session.specs.Outside.{SessionTookMoreThan};
+ghost use Rattle.column_run.specs.Endings.{IsColumnRunInputCutOff};
 ghost use Rattle.column_run.specs.declared.end.ColumnEnd.TheVariants as end;
 
 use crate::end::ColumnEnd;
@@ -19,10 +19,10 @@ pub(crate) const MOST_INPUT: usize = 16_777_216;
 pub(crate) fn read_input<S: Source>(alloc: Global, src: &mut S) -> Result<Text, ColumnEnd>
     ensures told { (input : List ℕ) → S.left src.old ≡ Some input →
         IfOk result (λ text. (text ≡ input) × (S.left src.new ≡ Some [])) }
-    ensures read { IsErrOf result end.ReadFault → CountRose (S.faults src.old) (S.faults src.new) }
+    ensures read { IsErrOf result end.ReadFault → HasIoCountRisen (S.faults src.old) (S.faults src.new) }
     ensures too_long { IsErrOf result end.InputTooLong →
-        TookMoreThan 16777216 (S.taken src.old) (S.taken src.new) }
-    ensures over { IfErr result IsInputCutOff }
+        SessionTookMoreThan 16777216 (S.taken src.old) (S.taken src.new) }
+    ensures over { IfErr result IsColumnRunInputCutOff }
 {
     let Ok(mut block) = vec![in alloc; 0u8; BLOCK] else {
         return Err(ColumnEnd::NoMemory);
@@ -36,10 +36,10 @@ fn read_by<S: Source>(alloc: Global, src: &mut S, block: &mut [u8]) -> Result<Te
     requires small { length block.old ≤ 65536 }
     ensures told { (input : List ℕ) → S.left src.old ≡ Some input →
         IfOk result (λ text. (text ≡ input) × (S.left src.new ≡ Some [])) }
-    ensures read { IsErrOf result end.ReadFault → CountRose (S.faults src.old) (S.faults src.new) }
+    ensures read { IsErrOf result end.ReadFault → HasIoCountRisen (S.faults src.old) (S.faults src.new) }
     ensures too_long { IsErrOf result end.InputTooLong →
-        TookMoreThan 16777216 (S.taken src.old) (S.taken src.new) }
-    ensures over { IfErr result IsInputCutOff }
+        SessionTookMoreThan 16777216 (S.taken src.old) (S.taken src.new) }
+    ensures over { IfErr result IsColumnRunInputCutOff }
 {
     let mut text = Vec::new(alloc);
     match take_all(src, block, &mut text) {
@@ -55,10 +55,10 @@ fn take_all<S: Source>(src: &mut S, block: &mut [u8], text: &mut Vec<u8>) -> Res
     requires empty { text.old.items ≡ [] }
     ensures told { (input : List ℕ) → S.left src.old ≡ Some input →
         OnOk result ((text.new.items ≡ input) × (S.left src.new ≡ Some [])) }
-    ensures read { IsErrOf result end.ReadFault → CountRose (S.faults src.old) (S.faults src.new) }
+    ensures read { IsErrOf result end.ReadFault → HasIoCountRisen (S.faults src.old) (S.faults src.new) }
     ensures too_long { IsErrOf result end.InputTooLong →
-        TookMoreThan 16777216 (S.taken src.old) (S.taken src.new) }
-    ensures over { IfErr result IsInputCutOff }
+        SessionTookMoreThan 16777216 (S.taken src.old) (S.taken src.new) }
+    ensures over { IfErr result IsColumnRunInputCutOff }
 {
     while text.len() <= MOST_INPUT {
         let n = match src.take(block) {

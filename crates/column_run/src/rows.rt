@@ -1,12 +1,12 @@
 //! Writing rows block by block.
 
 ghost use Rattle.std.specs.Prelude.{◌≡◌, ◌||◌, ◌≤◌, IfErr, IfOk, IsErrOf, OnOk};
-ghost use Rattle.live_table.specs.TableView.{IsAfterEvents};
-ghost use Rattle.reply.specs.Options.{IsPrintable};
-ghost use Rattle.units_io.specs.Bytes.{known_append, GrowsByFront};
-ghost use Rattle.units_io.specs.Faults.{CountRose};
-ghost use Rattle.column_convert.specs.Blocks.{is_error_row, text_of};
-ghost use Rattle.column_run.specs.Endings.{IsStopped};
+ghost use Rattle.live_table.specs.TableView.{IsAfterLiveEvents};
+ghost use Rattle.reply.specs.Options.{AreReplyOptionsPrintable};
+ghost use Rattle.units_io.specs.Bytes.{sink_bytes_append, SinkGrowsByPrefix};
+ghost use Rattle.units_io.specs.Faults.{HasIoCountRisen};
+ghost use Rattle.column_convert.specs.Blocks.{is_error_row, text_of_rows};
+ghost use Rattle.column_run.specs.Endings.{IsColumnRunStopped};
 ghost use Rattle.column_run.specs.Tasks as spec;
 ghost use Rattle.column_run.specs.declared.end.ColumnEnd.TheVariants as end;
 
@@ -30,16 +30,17 @@ impl ColumnTask {
         out: &mut O,
         steps: &mut Steps<L>,
     ) -> Result<bool, ColumnEnd>
-        requires { IsPrintable self.old.options }
+        requires { AreReplyOptionsPrintable self.old.options }
         ensures whole { OnOk result
-            (O.written out.new ≡ known_append (O.written out.old) (text_of (spec.rows_over self.old columns.old))) }
-        ensures front { GrowsByFront (O.written out.old) (O.written out.new)
-            (text_of (spec.rows_over self.old columns.old)) }
-        ensures refused { IfOk result (λ refused. refused ≡ is_error_row (spec.rows_over self.old columns.old)) }
-        ensures queries { OnOk result (IsAfterEvents (spec.queries_over self.old columns.old)
+            (O.written out.new ≡ sink_bytes_append (O.written out.old)
+            (text_of_rows (spec.column_run_rows self.old columns.old))) }
+        ensures front { SinkGrowsByPrefix (O.written out.old) (O.written out.new)
+            (text_of_rows (spec.column_run_rows self.old columns.old)) }
+        ensures refused { IfOk result (λ refused. refused ≡ is_error_row (spec.column_run_rows self.old columns.old)) }
+        ensures queries { OnOk result (IsAfterLiveEvents (spec.column_run_queries self.old columns.old)
             self.old.table self.new.table steps.old steps.new) }
-        ensures write { IsErrOf result end.WriteFault → CountRose (O.faults out.old) (O.faults out.new) }
-        ensures stopped { IfErr result IsStopped }
+        ensures write { IsErrOf result end.WriteFault → HasIoCountRisen (O.faults out.old) (O.faults out.new) }
+        ensures stopped { IfErr result IsColumnRunStopped }
         ensures later { O.faults out.old ≤ O.faults out.new }
     {
         blocks_law();

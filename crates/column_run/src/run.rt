@@ -1,11 +1,11 @@
 //! A run over column input.
 
 ghost use Rattle.std.specs.Prelude.{◌≡◌, ◌≤◌, [], List, ℕ, Some, true};
-ghost use Rattle.live_table.specs.TableView.{IsAfterEvents};
-ghost use Rattle.reply.specs.Options.{IsPrintable};
-ghost use Rattle.session.specs.Outside.{TookMoreThan};
-ghost use Rattle.units_io.specs.Faults.{CountRose};
-ghost use Rattle.column_run.specs.Outputs.{AreRowsWritten, is_over};
+ghost use Rattle.live_table.specs.TableView.{IsAfterLiveEvents};
+ghost use Rattle.reply.specs.Options.{AreReplyOptionsPrintable};
+ghost use Rattle.session.specs.Outside.{SessionTookMoreThan};
+ghost use Rattle.units_io.specs.Faults.{HasIoCountRisen};
+ghost use Rattle.column_run.specs.Outputs.{AreColumnRunRowsWritten, is_column_run_over};
 ghost use Rattle.column_run.specs.Tasks as spec;
 
 use crate::end::ColumnEnd;
@@ -26,18 +26,20 @@ impl ColumnTask {
         out: &mut O,
         steps: &mut Steps<L>,
     ) -> ColumnEnd
-        requires printable { IsPrintable self.old.options }
+        requires printable { AreReplyOptionsPrintable self.old.options }
         requires column { 1 ≤ self.old.column }
         ensures told { (input : List ℕ) → S.left src.old ≡ Some input →
-            AreRowsWritten (spec.task_rows self.old input) result (O.written out.old) (O.written out.new) }
-        ensures queries { (input : List ℕ) → S.left src.old ≡ Some input → is_over result ≡ true →
-            IsAfterEvents (spec.task_queries self.old input) self.old.table self.new.table steps.old steps.new }
-        ensures whole { (input : List ℕ) → S.left src.old ≡ Some input → is_over result ≡ true →
+            AreColumnRunRowsWritten (spec.column_run_rows_of_bytes self.old input) result (O.written out.old)
+            (O.written out.new) }
+        ensures queries { (input : List ℕ) → S.left src.old ≡ Some input → is_column_run_over result ≡ true →
+            IsAfterLiveEvents (spec.column_run_queries_of_bytes self.old input) self.old.table self.new.table steps.old
+            steps.new }
+        ensures whole { (input : List ℕ) → S.left src.old ≡ Some input → is_column_run_over result ≡ true →
             S.left src.new ≡ Some [] }
-        ensures read { result ≡ ColumnEnd.ReadFault → CountRose (S.faults src.old) (S.faults src.new) }
-        ensures write { result ≡ ColumnEnd.WriteFault → CountRose (O.faults out.old) (O.faults out.new) }
+        ensures read { result ≡ ColumnEnd.ReadFault → HasIoCountRisen (S.faults src.old) (S.faults src.new) }
+        ensures write { result ≡ ColumnEnd.WriteFault → HasIoCountRisen (O.faults out.old) (O.faults out.new) }
         ensures too_long { result ≡ ColumnEnd.InputTooLong →
-            TookMoreThan 16777216 (S.taken src.old) (S.taken src.new) }
+            SessionTookMoreThan 16777216 (S.taken src.old) (S.taken src.new) }
     {
         let input = match read_input(alloc, src) {
             Ok(input) => input,

@@ -8,45 +8,46 @@ use Rattle.clap.specs.Kinds.{Kinds}
 use Rattle.clap.specs.Words.{Text, fault_of}
 use Rattle.def_lines.specs.Lines.{line_content}
 use Rattle.def_lines.specs.Words.{is_empty}
-use Rattle.command_line.specs.Definition.{units_app}
+use Rattle.command_line.specs.Definition.{units_command_app}
 use Rattle.command_line.specs.Fields.{command_line_of}
 use Rattle.command_line.specs.declared.fields.CommandLine.{CommandLine}
 
 -- there is no fault
-abbrev pub is_faultless : Kinds → Bool
-is_faultless [] = true
-is_faultless (kind ∷ rest) = false
+abbrev pub has_no_usage_fault : Kinds → Bool
+has_no_usage_fault [] = true
+has_no_usage_fault (kind ∷ rest) = false
 
 -- each word is UTF-8, and clap's definition finds no fault in them
-unfoldable pub are_parsed : List Text → Bool
-are_parsed words = list_all is_utf8 words && is_faultless (fault_of units_app words)
+unfoldable pub are_command_words_parsed : List Text → Bool
+are_command_words_parsed words = list_all is_utf8 words && has_no_usage_fault (fault_of units_command_app words)
 
 -- 1 if the argument is given, and 0 otherwise
-abbrev pub one_if : Bool → ℕ
-one_if stands = if stands then 1 else 0
+abbrev pub one_if_command_argument : Bool → ℕ
+one_if_command_argument stands = if stands then 1 else 0
 
 -- how many of FROM, `--check` and `--trial` are given
-abbrev pub work_count : CommandLine → ℕ
-work_count line = one_if (is_some line.from) + one_if line.check + one_if (is_some line.trial)
+abbrev pub command_work_count : CommandLine → ℕ
+command_work_count line = one_if_command_argument (is_some line.from) + one_if_command_argument line.check
+    + one_if_command_argument (is_some line.trial)
 
 -- the TO word is neither blank nor `?`
-abbrev pub is_target : Text → Bool
-is_target to = not (is_empty (line_content to) || bytes_eq (line_content to) (codes "?"))
+abbrev pub is_target_word : Text → Bool
+is_target_word to = not (is_empty (line_content to) || bytes_eq (line_content to) (codes "?"))
 
 -- FROM is given, with a TO that is neither blank nor `?`
-abbrev pub is_conversion : CommandLine → Bool
-is_conversion line = is_some line.from && option_map_or is_target line.to false
+abbrev pub is_conversion_command : CommandLine → Bool
+is_conversion_command line = is_some line.from && option_map_or is_target_word line.to false
 
 -- `--column` is given only with a conversion, and `--header` only with `--column`
-abbrev pub columns_fit : CommandLine → Bool
-columns_fit line =
-    (not (is_some line.column) || is_conversion line) && (not line.header || is_some line.column)
+abbrev pub column_options_fit : CommandLine → Bool
+column_options_fit line =
+    (not (is_some line.column) || is_conversion_command line) && (not line.header || is_some line.column)
 
 -- at most one of FROM, `--check` and `--trial` is given, and the options for columns are given only where they are
 -- allowed
-abbrev pub arguments_fit : CommandLine → Bool
-arguments_fit line = nat_le (work_count line) 1 && columns_fit line
+abbrev pub command_options_fit : CommandLine → Bool
+command_options_fit line = nat_le (command_work_count line) 1 && column_options_fit line
 
 -- clap accepts the words, and their arguments are compatible
-unfoldable pub are_taken : List Text → Bool
-are_taken words = are_parsed words && arguments_fit (command_line_of words)
+unfoldable pub are_command_words_accepted : List Text → Bool
+are_command_words_accepted words = are_command_words_parsed words && command_options_fit (command_line_of words)

@@ -25,21 +25,21 @@ abbrev pub operand_rule : Text → Rule
 operand_rule name = record (new_rule name) { action = Some Set }
 
 -- the letter of an option
-abbrev pub letter : Text → Option ℕ
-letter [] = None
-letter (code ∷ rest) = Some code
+abbrev pub option_letter : Text → Option ℕ
+option_letter [] = None
+option_letter (code ∷ rest) = Some code
 
 -- any text
-abbrev pub any_text : Option ValueParser
-any_text = None
+abbrev pub option_of_any_text : Option ValueParser
+option_of_any_text = None
 
 -- a whole number from 1 to high
-abbrev pub number_up_to : ℕ → Option ValueParser
-number_up_to high = Some (vp.Signed (pos 1) (pos high))
+abbrev pub option_number_up_to : ℕ → Option ValueParser
+option_number_up_to high = Some (vp.Signed (pos 1) (pos high))
 
 -- the command without arguments, which accepts no words for help or for the version
-abbrev pub bare_app : App
-bare_app = record {
+abbrev pub bare_command_app : App
+bare_command_app = record {
   top = record (new_shape (codes "units")) {
     no_binary_name = true;
     disable_help_flag = true;
@@ -49,6 +49,6 @@ bare_app = record {
 }
 
 -- the command with each of these arguments added in turn
-abbrev pub with_rules : App → List Rule → App
-with_rules app [] = app
-with_rules app (rule ∷ rest) = with_rules (with_rule app rule) rest
+abbrev pub command_app_with_rules : App → List Rule → App
+command_app_with_rules app [] = app
+command_app_with_rules app (rule ∷ rest) = command_app_with_rules (with_rule app rule) rest

@@ -1,9 +1,10 @@
 //! The definition of the program's command for clap.
 ghost use Rattle.std.specs.Prelude.{◌≡◌, ◌∷◌, [], IfOk, Some, None, codes, map};
 ghost use Rattle.clap.specs.Words.{app_of, with_rule};
-ghost use Rattle.command_line.specs.Rules.{flag_rule, option_rule, operand_rule, with_rules};
-ghost use Rattle.command_line.specs.Rules.{bare_app, any_text, letter, number_up_to};
-ghost use Rattle.command_line.specs.Definition.{reply_rules, mode_rules, column_rules, source_rules, units_app};
+ghost use Rattle.command_line.specs.Rules.{flag_rule, option_rule, command_app_with_rules, operand_rule};
+ghost use Rattle.command_line.specs.Rules.{bare_command_app, option_letter, option_number_up_to, option_of_any_text};
+ghost use Rattle.command_line.specs.Definition.{reply_option_rules, mode_flag_rules, column_option_rules};
+ghost use Rattle.command_line.specs.Definition.{source_option_rules, units_command_app};
 
 use clap::builder::ValueParser;
 use clap::{Arg, ArgAction, Command, value_parser};
@@ -11,7 +12,7 @@ use std::alloc::{AllocError, Global};
 
 /// Returns the command of this program with all its arguments.
 pub(crate) fn units_command<'a>(alloc: Global) -> Result<Command<'a>, AllocError>
-    ensures { IfOk result (λ command. app_of command ≡ units_app) }
+    ensures { IfOk result (λ command. app_of command ≡ units_command_app) }
 {
     let bare = bare_command(alloc);
     let with_replies = with_reply_options(alloc, bare)?;
@@ -22,7 +23,7 @@ pub(crate) fn units_command<'a>(alloc: Global) -> Result<Command<'a>, AllocError
 
 /// Returns the command without arguments. It accepts no words for help or for the version.
 fn bare_command<'a>(alloc: Global) -> Command<'a>
-    ensures { app_of result ≡ bare_app }
+    ensures { app_of result ≡ bare_command_app }
 {
     Command::new(alloc, "units")
         .no_binary_name(true)
@@ -32,7 +33,7 @@ fn bare_command<'a>(alloc: Global) -> Command<'a>
 
 /// Adds the options that determine the form of a reply.
 fn with_reply_options<'a>(alloc: Global, command: Command<'a>) -> Result<Command<'a>, AllocError>
-    ensures { IfOk result (λ r. app_of r ≡ with_rules (app_of command.entry) reply_rules) }
+    ensures { IfOk result (λ r. app_of r ≡ command_app_with_rules (app_of command.entry) reply_option_rules) }
 {
     let command = with_digits(alloc, command)?;
     let flags = [
@@ -46,7 +47,7 @@ fn with_reply_options<'a>(alloc: Global, command: Command<'a>) -> Result<Command
 
 /// Adds the flags that determine how the program works.
 fn with_mode_options<'a>(alloc: Global, command: Command<'a>) -> Result<Command<'a>, AllocError>
-    ensures { IfOk result (λ r. app_of r ≡ with_rules (app_of command.entry) mode_rules) }
+    ensures { IfOk result (λ r. app_of r ≡ command_app_with_rules (app_of command.entry) mode_flag_rules) }
 {
     let flags = [
         ("quiet", Some('q')),
@@ -60,7 +61,7 @@ fn with_mode_options<'a>(alloc: Global, command: Command<'a>) -> Result<Command<
 
 /// Adds the options for records of fields.
 fn with_column_options<'a>(alloc: Global, command: Command<'a>) -> Result<Command<'a>, AllocError>
-    ensures { IfOk result (λ r. app_of r ≡ with_rules (app_of command.entry) column_rules) }
+    ensures { IfOk result (λ r. app_of r ≡ command_app_with_rules (app_of command.entry) column_option_rules) }
 {
     let command = with_column(alloc, command)?;
     with_flag(alloc, command, "header", None)
@@ -68,7 +69,7 @@ fn with_column_options<'a>(alloc: Global, command: Command<'a>) -> Result<Comman
 
 /// Adds the inputs of the program: definition file, locale, trial and the two operands.
 fn with_sources<'a>(alloc: Global, command: Command<'a>) -> Result<Command<'a>, AllocError>
-    ensures { IfOk result (λ r. app_of r ≡ with_rules (app_of command.entry) source_rules) }
+    ensures { IfOk result (λ r. app_of r ≡ command_app_with_rules (app_of command.entry) source_option_rules) }
 {
     let command = with_file_and_locale(alloc, command)?;
     let command = with_trial(alloc, command)?;
@@ -76,9 +77,9 @@ fn with_sources<'a>(alloc: Global, command: Command<'a>) -> Result<Command<'a>, 
 }
 
 fn with_file_and_locale<'a>(alloc: Global, command: Command<'a>) -> Result<Command<'a>, AllocError>
-    ensures { IfOk result (λ r. app_of r ≡ with_rules (app_of command.entry)
-        (option_rule (codes "file") (letter (codes "f")) any_text
-        ∷ option_rule (codes "locale") (letter (codes "l")) any_text
+    ensures { IfOk result (λ r. app_of r ≡ command_app_with_rules (app_of command.entry)
+        (option_rule (codes "file") (option_letter (codes "f")) option_of_any_text
+        ∷ option_rule (codes "locale") (option_letter (codes "l")) option_of_any_text
         ∷ [])) }
 {
     let command = with_text_option(alloc, command, "file", 'f')?;
@@ -86,7 +87,7 @@ fn with_file_and_locale<'a>(alloc: Global, command: Command<'a>) -> Result<Comma
 }
 
 fn with_operands<'a>(alloc: Global, command: Command<'a>) -> Result<Command<'a>, AllocError>
-    ensures { IfOk result (λ r. app_of r ≡ with_rules (app_of command.entry)
+    ensures { IfOk result (λ r. app_of r ≡ command_app_with_rules (app_of command.entry)
         (operand_rule (codes "from") ∷ operand_rule (codes "to") ∷ [])) }
 {
     let command = with_operand(alloc, command, "from")?;
@@ -100,7 +101,7 @@ fn with_flags<'a>(
     flags: &[(&'a str, Option<char>)],
 ) -> Result<Command<'a>, AllocError>
     ensures { IfOk result (λ r. app_of r
-        ≡ with_rules (app_of command.entry) (map (λ flag. flag_rule flag.0.now flag.1) flags.entry.now)) }
+        ≡ command_app_with_rules (app_of command.entry) (map (λ flag. flag_rule flag.0.now flag.1) flags.entry.now)) }
 {
     let mut command = command;
     for (name, short) in flags {
@@ -132,7 +133,7 @@ fn with_text_option<'a>(
     short: char,
 ) -> Result<Command<'a>, AllocError>
     ensures { IfOk result (λ r. app_of r
-        ≡ with_rule (app_of command.entry) (option_rule name.entry.now (Some short) any_text)) }
+        ≡ with_rule (app_of command.entry) (option_rule name.entry.now (Some short) option_of_any_text)) }
 {
     let option = Arg::new(alloc, name)
         .long(name)
@@ -143,7 +144,7 @@ fn with_text_option<'a>(
 
 fn with_digits<'a>(alloc: Global, command: Command<'a>) -> Result<Command<'a>, AllocError>
     ensures { IfOk result (λ r. app_of r ≡ with_rule (app_of command.entry)
-        (option_rule (codes "digits") (letter (codes "d")) (number_up_to 36))) }
+        (option_rule (codes "digits") (option_letter (codes "d")) (option_number_up_to 36))) }
 {
     let digits = Arg::new(alloc, "digits")
         .long("digits")
@@ -155,7 +156,7 @@ fn with_digits<'a>(alloc: Global, command: Command<'a>) -> Result<Command<'a>, A
 
 fn with_trial<'a>(alloc: Global, command: Command<'a>) -> Result<Command<'a>, AllocError>
     ensures { IfOk result (λ r. app_of r ≡ with_rule (app_of command.entry)
-        (option_rule (codes "trial") None (number_up_to 20000))) }
+        (option_rule (codes "trial") None (option_number_up_to 20000))) }
 {
     let number = value_parser!(u16).range(1..=20000);
     with_value_option(alloc, command, "trial", number)
@@ -163,7 +164,7 @@ fn with_trial<'a>(alloc: Global, command: Command<'a>) -> Result<Command<'a>, Al
 
 fn with_column<'a>(alloc: Global, command: Command<'a>) -> Result<Command<'a>, AllocError>
     ensures { IfOk result (λ r. app_of r ≡ with_rule (app_of command.entry)
-        (option_rule (codes "column") None (number_up_to 65535))) }
+        (option_rule (codes "column") None (option_number_up_to 65535))) }
 {
     let number = value_parser!(u16).range(1..=65535);
     with_value_option(alloc, command, "column", number)

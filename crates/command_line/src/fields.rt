@@ -1,8 +1,8 @@
 //! The request in the words of a command line, field by field.
 ghost use Rattle.std.specs.Prelude.{◌≡◌, ◌≤◌, IfOk, IfSome, codes, option_map};
 ghost use Rattle.clap.specs.Words.{rows_of, found_of, first_of};
-ghost use Rattle.command_line.specs.Numbers.{IsUpTo, decimal_number};
-ghost use Rattle.command_line.specs.Fields.{HasNumberUpTo, has_flag, number_at, fields_of};
+ghost use Rattle.command_line.specs.Numbers.{IsOptionNumberUpTo, option_decimal_number};
+ghost use Rattle.command_line.specs.Fields.{HasOptionNumberUpTo, has_command_flag, option_number, command_line_fields};
 
 use clap::ArgMatches;
 use std::alloc::{AllocError, Global};
@@ -52,10 +52,10 @@ pub(crate) fn command_line_from(
     alloc: Global,
     matches: &ArgMatches<'_>,
 ) -> Result<CommandLine, AllocError>
-    requires digits { HasNumberUpTo (codes "digits") 36 (rows_of (found_of matches.now)) }
-    requires trial { HasNumberUpTo (codes "trial") 20000 (rows_of (found_of matches.now)) }
-    requires column { HasNumberUpTo (codes "column") 65535 (rows_of (found_of matches.now)) }
-    ensures fields { IfOk result (λ line. line ≡ fields_of (rows_of (found_of matches.now))) }
+    requires digits { HasOptionNumberUpTo (codes "digits") 36 (rows_of (found_of matches.now)) }
+    requires trial { HasOptionNumberUpTo (codes "trial") 20000 (rows_of (found_of matches.now)) }
+    requires column { HasOptionNumberUpTo (codes "column") 65535 (rows_of (found_of matches.now)) }
+    ensures fields { IfOk result (λ line. line ≡ command_line_fields (rows_of (found_of matches.now))) }
     ensures digits { IfOk result (λ line. IfSome line.digits (λ n. (1 ≤ n) × (n ≤ 36))) }
     ensures trial { IfOk result (λ line. IfSome line.trial (λ n. (1 ≤ n) × (n ≤ 20000))) }
     ensures column { IfOk result (λ line. IfSome line.column (λ n. (1 ≤ n) × (n ≤ 65535))) }
@@ -86,8 +86,8 @@ pub(crate) fn command_line_from(
 }
 
 fn digits_of(matches: &ArgMatches<'_>) -> Option<u8>
-    requires { HasNumberUpTo (codes "digits") 36 (rows_of (found_of matches.now)) }
-    ensures value { result ≡ number_at (codes "digits") (rows_of (found_of matches.now)) }
+    requires { HasOptionNumberUpTo (codes "digits") 36 (rows_of (found_of matches.now)) }
+    ensures value { result ≡ option_number (codes "digits") (rows_of (found_of matches.now)) }
     ensures range { IfSome result (λ n. (1 ≤ n) × (n ≤ 36)) }
 {
     match value_of(matches, "digits") {
@@ -97,8 +97,8 @@ fn digits_of(matches: &ArgMatches<'_>) -> Option<u8>
 }
 
 fn trial_of(matches: &ArgMatches<'_>) -> Option<u16>
-    requires { HasNumberUpTo (codes "trial") 20000 (rows_of (found_of matches.now)) }
-    ensures value { result ≡ number_at (codes "trial") (rows_of (found_of matches.now)) }
+    requires { HasOptionNumberUpTo (codes "trial") 20000 (rows_of (found_of matches.now)) }
+    ensures value { result ≡ option_number (codes "trial") (rows_of (found_of matches.now)) }
     ensures range { IfSome result (λ n. (1 ≤ n) × (n ≤ 20000)) }
 {
     match value_of(matches, "trial") {
@@ -108,8 +108,8 @@ fn trial_of(matches: &ArgMatches<'_>) -> Option<u16>
 }
 
 fn column_of(matches: &ArgMatches<'_>) -> Option<u16>
-    requires { HasNumberUpTo (codes "column") 65535 (rows_of (found_of matches.now)) }
-    ensures value { result ≡ number_at (codes "column") (rows_of (found_of matches.now)) }
+    requires { HasOptionNumberUpTo (codes "column") 65535 (rows_of (found_of matches.now)) }
+    ensures value { result ≡ option_number (codes "column") (rows_of (found_of matches.now)) }
     ensures range { IfSome result (λ n. (1 ≤ n) × (n ≤ 65535)) }
 {
     match value_of(matches, "column") {
@@ -119,14 +119,14 @@ fn column_of(matches: &ArgMatches<'_>) -> Option<u16>
 }
 
 fn number_in(text: &str) -> u16
-    requires { IsUpTo 65535 text.now }
-    ensures { result ≡ decimal_number text.now }
+    requires { IsOptionNumberUpTo 65535 text.now }
+    ensures { result ≡ option_decimal_number text.now }
 {
     text.parse::<u16>().unwrap()
 }
 
 fn flag_of(matches: &ArgMatches<'_>, name: &str) -> bool
-    ensures { result ≡ has_flag name.now (rows_of (found_of matches.now)) }
+    ensures { result ≡ has_command_flag name.now (rows_of (found_of matches.now)) }
 {
     match value_of(matches, name) {
         Some(text) => text == "true",

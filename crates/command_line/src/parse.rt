@@ -3,8 +3,8 @@ ghost use Rattle.std.specs.Prelude.{◌≡◌, ◌≢◌, [], IfOk, MatchResult,
 ghost use Rattle.std.specs.List.{list_all};
 ghost use Rattle.std.specs.Str.{is_utf8};
 ghost use Rattle.clap.specs.Words.{rows_of, fault_of, found_of, kind_of, matches_of};
-ghost use Rattle.command_line.specs.Definition.{units_app};
-ghost use Rattle.command_line.specs.Fields.{HasNumberUpTo};
+ghost use Rattle.command_line.specs.Definition.{units_command_app};
+ghost use Rattle.command_line.specs.Fields.{HasOptionNumberUpTo};
 
 use crate::definition::units_command;
 use crate::fault::WordsFault;
@@ -33,15 +33,15 @@ pub(crate) fn texts_of<'w>(alloc: Global, words: &'w [Text]) -> Result<Vec<&'w s
 pub(crate) fn parse<'a>(alloc: Global, words: &'a [&'a str]) -> Result<ArgMatches<'a>, WordsFault>
     ensures exact { let texts = map (λ word. word.now) words.entry.now in
         MatchResult result
-        (λ matches. (fault_of units_app texts ≡ [])
-        × (rows_of (found_of matches) ≡ matches_of units_app texts))
-        (λ fault. fault ≡ WordsFault.Usage → fault_of units_app texts ≢ []) }
+        (λ matches. (fault_of units_command_app texts ≡ [])
+        × (rows_of (found_of matches) ≡ matches_of units_command_app texts))
+        (λ fault. fault ≡ WordsFault.Usage → fault_of units_command_app texts ≢ []) }
     ensures digits { IfOk result (λ matches.
-        HasNumberUpTo (codes "digits") 36 (rows_of (found_of matches))) }
+        HasOptionNumberUpTo (codes "digits") 36 (rows_of (found_of matches))) }
     ensures trial { IfOk result (λ matches.
-        HasNumberUpTo (codes "trial") 20000 (rows_of (found_of matches))) }
+        HasOptionNumberUpTo (codes "trial") 20000 (rows_of (found_of matches))) }
     ensures column { IfOk result (λ matches.
-        HasNumberUpTo (codes "column") 65535 (rows_of (found_of matches))) }
+        HasOptionNumberUpTo (codes "column") 65535 (rows_of (found_of matches))) }
 {
     let mut command = units_command(alloc)?;
     match command.try_get_matches_from_mut(words) {

@@ -4,81 +4,87 @@ use Rattle.std.proofs.Common.{append_assoc}
 use Rattle.std.specs.List.{filter}
 use Rattle.std.proofs.Math.Bool.{and-false}
 use Rattle.def_entry.specs.declared.key.Key.{Key}
-use Rattle.def_entry.specs.SameKeys.{is_key_among, is_same}
-use Rattle.def_entry.proofs.SameKeys.{same_keys}
-use Rattle.deck.specs.Changes.{AreOnce, each_once}
+use Rattle.def_entry.specs.SameKeys.{is_entry_key_among, is_same_entry_key}
+use Rattle.def_entry.proofs.SameKeys.{same_entry_keys}
+use Rattle.deck.specs.Changes.{AreDeckKeysOnce, each_deck_key_once}
 
 -- a key is in two concatenated lists exactly if it is in one of them
-pub among-append : (ks ls : List Key) (k : Key) → is_key_among (ks ++ ls) k ≡ (is_key_among ks k || is_key_among ls k)
-among-append [] ls k = refl
-among-append (x ∷ ks) ls k = ap (λ b. is_same k x || b) (among-append ks ls k)
-    ∙ or_assoc (is_same k x) (is_key_among ks k) (is_key_among ls k)
+pub deck_key_among-append : (ks ls : List Key) (k : Key)
+    → is_entry_key_among (ks ++ ls) k ≡ (is_entry_key_among ks k || is_entry_key_among ls k)
+deck_key_among-append [] ls k = refl
+deck_key_among-append (x ∷ ks) ls k = ap (λ b. is_same_entry_key k x || b) (deck_key_among-append ks ls k)
+    ∙ or_assoc (is_same_entry_key k x) (is_entry_key_among ks k) (is_entry_key_among ls k)
   where
     or_assoc : (a b c : Bool) → (a || (b || c)) ≡ ((a || b) || c)
     or_assoc true b c = refl
     or_assoc false b c = refl
 
 -- a key is in a filtered list exactly if it passes the test and is in the list
-pub among_filter : (p : Key → Bool) (ks : List Key) (k : Key)
-    → is_key_among (filter p ks) k ≡ (p k && is_key_among ks k)
-among_filter p [] k = sym (and-false (p k))
-among_filter p (x ∷ ks) k = by (among_filter p ks k) (p x) refl (is_same k x) refl
+pub deck_key_among_filter : (p : Key → Bool) (ks : List Key) (k : Key)
+    → is_entry_key_among (filter p ks) k ≡ (p k && is_entry_key_among ks k)
+deck_key_among_filter p [] k = sym (and-false (p k))
+deck_key_among_filter p (x ∷ ks) k = by (deck_key_among_filter p ks k) (p x) refl (is_same_entry_key k x) refl
   where
-    by : is_key_among (filter p ks) k ≡ (p k && is_key_among ks k) → (b : Bool) → p x ≡ b → (s : Bool) → is_same k x ≡ s
-        → is_key_among (cond b (x ∷ filter p ks) (filter p ks)) k ≡ (p k && (s || is_key_among ks k))
-    by ih true h true e = ap (λ s. s || is_key_among (filter p ks) k) e
-        ∙ sym (ap (λ b. b && true) (ap p ((same_keys k x).0 e) ∙ h))
-    by ih true h false e = ap (λ s. s || is_key_among (filter p ks) k) e ∙ ih
-    by ih false h true e = ih ∙ ap (λ b. b && is_key_among ks k) (ap p ((same_keys k x).0 e) ∙ h)
-        ∙ sym (ap (λ b. b && true) (ap p ((same_keys k x).0 e) ∙ h))
+    by : is_entry_key_among (filter p ks) k ≡ (p k && is_entry_key_among ks k) → (b : Bool) → p x ≡ b → (s : Bool)
+        → is_same_entry_key k x ≡ s
+        → is_entry_key_among (cond b (x ∷ filter p ks) (filter p ks)) k ≡ (p k && (s || is_entry_key_among ks k))
+    by ih true h true e = ap (λ s. s || is_entry_key_among (filter p ks) k) e
+        ∙ sym (ap (λ b. b && true) (ap p ((same_entry_keys k x).0 e) ∙ h))
+    by ih true h false e = ap (λ s. s || is_entry_key_among (filter p ks) k) e ∙ ih
+    by ih false h true e = ih ∙ ap (λ b. b && is_entry_key_among ks k) (ap p ((same_entry_keys k x).0 e) ∙ h)
+        ∙ sym (ap (λ b. b && true) (ap p ((same_entry_keys k x).0 e) ∙ h))
     by ih false h false e = ih
 
 -- filtering preserves that keys occur once
-pub once_filter : (p : Key → Bool) (ks : List Key) → AreOnce ks → AreOnce (filter p ks)
-once_filter p [] h = tt
-once_filter p (x ∷ ks) h = by (p x) (once_filter p ks h.1)
+pub deck_keys_once_filter : (p : Key → Bool) (ks : List Key) → AreDeckKeysOnce ks → AreDeckKeysOnce (filter p ks)
+deck_keys_once_filter p [] h = tt
+deck_keys_once_filter p (x ∷ ks) h = by (p x) (deck_keys_once_filter p ks h.1)
   where
-    by : (b : Bool) → AreOnce (filter p ks) → AreOnce (cond b (x ∷ filter p ks) (filter p ks))
-    by true ih = (among_filter p ks x ∙ ap (λ b. p x && b) h.0 ∙ and-false (p x), ih)
+    by : (b : Bool) → AreDeckKeysOnce (filter p ks) → AreDeckKeysOnce (cond b (x ∷ filter p ks) (filter p ks))
+    by true ih = (deck_key_among_filter p ks x ∙ ap (λ b. p x && b) h.0 ∙ and-false (p x), ih)
     by false ih = ih
 
 -- if two lists share no key, and keys occur once in each, they do so in the concatenation
-pub once-append : (ks ls : List Key) → AreOnce ks → AreOnce ls
-    → ((k : Key) → is_key_among ks k ≡ true → is_key_among ls k ≡ false) → AreOnce (ks ++ ls)
-once-append [] ls h g apart = g
-once-append (x ∷ ks) ls h g apart = (
-  among-append ks ls x ∙ ap (λ b. b || is_key_among ls x) h.0
-      ∙ apart x (ap (λ b. b || is_key_among ks x) ((same_keys x x).1 refl)),
-  once-append ks ls h.1 g (λ k e. apart k (later (is_same k x) (is_key_among ks k) e)),
+pub deck_keys_once-append : (ks ls : List Key) → AreDeckKeysOnce ks → AreDeckKeysOnce ls
+    → ((k : Key) → is_entry_key_among ks k ≡ true → is_entry_key_among ls k ≡ false) → AreDeckKeysOnce (ks ++ ls)
+deck_keys_once-append [] ls h g apart = g
+deck_keys_once-append (x ∷ ks) ls h g apart = (
+  deck_key_among-append ks ls x ∙ ap (λ b. b || is_entry_key_among ls x) h.0
+      ∙ apart x (ap (λ b. b || is_entry_key_among ks x) ((same_entry_keys x x).1 refl)),
+  deck_keys_once-append ks ls h.1 g (λ k e. apart k (later (is_same_entry_key k x) (is_entry_key_among ks k) e)),
 )
   where
     later : (a b : Bool) → b ≡ true → (a || b) ≡ true
     later true b e = refl
     later false b e = e
 
--- `each_once` keeps the keys of a list
-pub among_each : (ks : List Key) (k : Key) → is_key_among (each_once ks) k ≡ is_key_among ks k
-among_each [] k = refl
-among_each (x ∷ ks) k = by (among_each ks k) (is_key_among ks x) refl
+-- `each_deck_key_once` keeps the keys of a list
+pub deck_key_among_each_once : (ks : List Key) (k : Key)
+    → is_entry_key_among (each_deck_key_once ks) k ≡ is_entry_key_among ks k
+deck_key_among_each_once [] k = refl
+deck_key_among_each_once (x ∷ ks) k = by (deck_key_among_each_once ks k) (is_entry_key_among ks x) refl
   where
-    absorbed : (b : Bool) → is_same k x ≡ b → is_key_among ks x ≡ true → is_key_among ks k ≡ (b || is_key_among ks k)
-    absorbed true e h = ap (is_key_among ks) ((same_keys k x).0 e) ∙ h
+    absorbed : (b : Bool) → is_same_entry_key k x ≡ b → is_entry_key_among ks x ≡ true
+        → is_entry_key_among ks k ≡ (b || is_entry_key_among ks k)
+    absorbed true e h = ap (is_entry_key_among ks) ((same_entry_keys k x).0 e) ∙ h
     absorbed false e h = refl
 
-    by : is_key_among (each_once ks) k ≡ is_key_among ks k → (b : Bool) → is_key_among ks x ≡ b
-        → is_key_among (cond b (each_once ks) (x ∷ each_once ks)) k ≡ (is_same k x || is_key_among ks k)
-    by ih true h = ih ∙ absorbed (is_same k x) refl h
-    by ih false h = ap (λ b. is_same k x || b) ih
+    by : is_entry_key_among (each_deck_key_once ks) k ≡ is_entry_key_among ks k → (b : Bool)
+        → is_entry_key_among ks x ≡ b
+        → is_entry_key_among (cond b (each_deck_key_once ks) (x ∷ each_deck_key_once ks))
+        k ≡ (is_same_entry_key k x || is_entry_key_among ks k)
+    by ih true h = ih ∙ absorbed (is_same_entry_key k x) refl h
+    by ih false h = ap (λ b. is_same_entry_key k x || b) ih
 
--- in the result of `each_once` each key occurs once
-pub once_each : (ks : List Key) → AreOnce (each_once ks)
-once_each [] = tt
-once_each (x ∷ ks) = by (is_key_among ks x) refl (once_each ks)
+-- in the result of `each_deck_key_once` each key occurs once
+pub each_deck_key_is_once : (ks : List Key) → AreDeckKeysOnce (each_deck_key_once ks)
+each_deck_key_is_once [] = tt
+each_deck_key_is_once (x ∷ ks) = by (is_entry_key_among ks x) refl (each_deck_key_is_once ks)
   where
-    by : (b : Bool) → is_key_among ks x ≡ b → AreOnce (each_once ks)
-        → AreOnce (cond b (each_once ks) (x ∷ each_once ks))
+    by : (b : Bool) → is_entry_key_among ks x ≡ b → AreDeckKeysOnce (each_deck_key_once ks)
+        → AreDeckKeysOnce (cond b (each_deck_key_once ks) (x ∷ each_deck_key_once ks))
     by true h ih = ih
-    by false h ih = (among_each ks x ∙ h, ih)
+    by false h ih = (deck_key_among_each_once ks x ∙ h, ih)
 
 -- concatenation of four lists is associative
 pub four_lists : {A : Type 0} (a b c d : List A) → ((a ++ b) ++ c) ++ d ≡ a ++ (b ++ (c ++ d))

@@ -4,37 +4,37 @@ use Rattle.std.proofs.Common.{Result, Ok, Err, Option, Some, IfSome, inl, inr, a
 use Rattle.std.proofs.lemmas.List.{append-nil}
 use Rattle.std.proofs.lemmas.Slice.Eq.{bytes_eq-Decides}
 use Rattle.std.specs.Prelude.{IsErrAnd, MatchResult, bytes_eq}
-use Rattle.units_io.specs.FileMap.{FileMap, no_files}
-use Rattle.units_io.specs.FetchResults.{IsFetched}
+use Rattle.units_io.specs.FileMap.{FileMap, no_files_in_map}
+use Rattle.units_io.specs.FetchResults.{IsFileFetched}
 use Rattle.units_io.specs.declared.files.FetchFault.{FetchFault}
 use Rattle.deck_lines.specs.Excerpts.{Excerpt}
 use Rattle.deck_lines.specs.LineLoads.{excerpt_in, faults_after_load, load_of_file}
 use Rattle.deck_lines.specs.LoadLaws.{KnownLoadLaw}
-use Rattle.deck_lines.specs.Transcripts.{AreAnswersOf, Fetch, FetchRelation, HasTranscript, IsLoad, IsTranscript, Load}
-use Rattle.deck_lines.specs.Transcripts.{load_outcome}
+use Rattle.deck_lines.specs.Transcripts.{AreTranscriptAnswersOf, FetchRelation, HasTranscript, IsLoad, IsTranscript}
+use Rattle.deck_lines.specs.Transcripts.{Load, TranscriptFetch, load_outcome}
 use Rattle.deck_lines.specs.declared.draft.Draft.{Draft}
 use Rattle.deck_lines.specs.declared.draft.LoadFault.{LoadFault}
 use Rattle.deck_lines.specs.declared.draft.LoadFault.TheVariants as load
-use Rattle.deck.specs.Decks.{Contents}
-use Rattle.deck.specs.FileLoads.{IsLoadRead, MayFail, after_append, after_text, deck_of_outcome, empty_deck}
-use Rattle.deck.specs.FileLoads.{fault_of_load, lines_alone, load_error, load_of_first_answer, load_of_name}
-use Rattle.deck.specs.FileLoads.{load_with_fault}
+use Rattle.deck.specs.Decks.{DeckContents}
+use Rattle.deck.specs.FileLoads.{IsDeckLoadRead, MayDeckLoadFailWith, deck_after_appending, deck_after_text_loading}
+use Rattle.deck.specs.FileLoads.{deck_of_outcome, empty_deck, deck_excerpt_of_lines, deck_fault_of_load}
+use Rattle.deck.specs.FileLoads.{deck_load_error, deck_load_of_first_answer, deck_load_of_name, load_with_deck_fault}
 use Rattle.deck.specs.declared.fault.DeckFault.{DeckFault}
 use Rattle.deck.specs.declared.fault.DeckFault.TheVariants.{DeckFull, OutOfMemory}
 use Rattle.deck.specs.declared.settings.Settings.{Settings}
-use Rattle.deck.proofs.KnownLoads.{known_append_law, of_load, read_known}
+use Rattle.deck.proofs.KnownLoads.{known_deck_append_law, of_load, read_known}
 
 -- a load whose first fetch is of its file continues with the answer
-fetched_first : (name : List ℕ) (answer : Result (List ℕ) FetchFault) (before : Excerpt) (rest : List Fetch)
-    → load_of_name name before (record { name = name; answer = answer } ∷ rest)
-    ≡ load_of_first_answer name answer before rest
+fetched_first : (name : List ℕ) (answer : Result (List ℕ) FetchFault) (before : Excerpt) (rest : List TranscriptFetch)
+    → deck_load_of_name name before (record { name = name; answer = answer } ∷ rest)
+    ≡ deck_load_of_first_answer name answer before rest
 fetched_first name answer before rest =
     let same : bytes_eq name name ≡ true = (bytes_eq-Decides name name).1 refl in
     rw same refl
 
 -- the outcome of a load with another name for its fault
-renamed : (o : Result Excerpt LoadFault) (rest : List Fetch)
-    → load_with_fault fault_of_load (load_outcome o rest) ≡ load_outcome (of_load o) rest
+renamed : (o : Result Excerpt LoadFault) (rest : List TranscriptFetch)
+    → load_with_deck_fault deck_fault_of_load (load_outcome o rest) ≡ load_outcome (of_load o) rest
 renamed (Ok e) rest = refl
 renamed (Err f) rest = refl
 
@@ -42,42 +42,42 @@ module _ {State : Type 0} (files : Option FileMap) (is_fetch : FetchRelation Sta
   -- the load of a file to a draft has this result
   abbrev IsNamedLoad : List ℕ → Draft → Draft → Result (Unit {0}) DeckFault → Type 0
   IsNamedLoad name before after r =
-      IsLoad OutOfMemory (IsTranscript files is_fetch from to) (load_of_name name (excerpt_in before))
+      IsLoad OutOfMemory (IsTranscript files is_fetch from to) (deck_load_of_name name (excerpt_in before))
       (λ _. excerpt_in after) r
 
   -- the result of the load of a file that is read is that of the load of its bytes
   pub read_loads : (here : State) (name bytes : List ℕ) (before after : Draft) (r : Result (Unit {0}) LoadFault)
-      → IfSome files (λ m. IsFetched m name (Ok bytes)) → is_fetch from name (Ok bytes) here
+      → IfSome files (λ m. IsFileFetched m name (Ok bytes)) → is_fetch from name (Ok bytes) here
       → IsLoad load.OutOfMemory (IsTranscript files is_fetch here to) (load_of_file name bytes (excerpt_in before))
       (λ _. excerpt_in after) r
       → MatchResult r (λ u. IsNamedLoad name before after (Ok u))
-      (λ fault. IsNamedLoad name before after (Err (fault_of_load fault)))
+      (λ fault. IsNamedLoad name before after (Err (deck_fault_of_load fault)))
   read_loads here name bytes before after r may made h = by r h
     where
       go : (o : Result Excerpt LoadFault)
           → HasTranscript (IsTranscript files is_fetch here to) (load_of_file name bytes (excerpt_in before)) o
-          → HasTranscript (IsTranscript files is_fetch from to) (load_of_name name (excerpt_in before)) (of_load o)
+          → HasTranscript (IsTranscript files is_fetch from to) (deck_load_of_name name (excerpt_in before)) (of_load o)
       go o g = (
         record { name = name; answer = Ok bytes } ∷ g.0,
         ((may, g.1.0), (here, made, g.1.1)),
         λ rest. fetched_first name (Ok bytes) (excerpt_in before) (g.0 ++ rest)
-            ∙ ap (load_with_fault fault_of_load) (g.2 rest) ∙ renamed o rest,
+            ∙ ap (load_with_deck_fault deck_fault_of_load) (g.2 rest) ∙ renamed o rest,
       )
 
       by : (r : Result (Unit {0}) LoadFault)
           → IsLoad load.OutOfMemory (IsTranscript files is_fetch here to) (load_of_file name bytes (excerpt_in before))
           (λ _. excerpt_in after) r
           → MatchResult r (λ u. IsNamedLoad name before after (Ok u))
-          (λ fault. IsNamedLoad name before after (Err (fault_of_load fault)))
+          (λ fault. IsNamedLoad name before after (Err (deck_fault_of_load fault)))
       by (Ok u) g = go (Ok (excerpt_in after)) g
-      by (Err fault) (inl e) = inl (ap fault_of_load e)
+      by (Err fault) (inl e) = inl (ap deck_fault_of_load e)
       by (Err fault) (inr g) = inr (go (Err fault) g)
 
   -- the result of the load of a file that is not read is the error of its fetch
   pub unread_loads : {T : Type 0} (name : List ℕ) (before : Excerpt) (left : T → Excerpt) (fault : FetchFault)
-      → IfSome files (λ m. IsFetched m name (Err fault)) → is_fetch from name (Err fault) to
-      → IsLoad OutOfMemory (IsTranscript files is_fetch from to) (load_of_name name before) left
-      (Err (load_error fault))
+      → IfSome files (λ m. IsFileFetched m name (Err fault)) → is_fetch from name (Err fault) to
+      → IsLoad OutOfMemory (IsTranscript files is_fetch from to) (deck_load_of_name name before) left
+      (Err (deck_load_error fault))
   unread_loads name before left fault may made =
       inr (
         record { name = name; answer = Err fault } ∷ [],
@@ -88,31 +88,33 @@ module _ {State : Type 0} (files : Option FileMap) (is_fetch : FetchRelation Sta
   -- if the files are known, a load to a draft without notices appends the deck that they determine
   pub draft_known : KnownLoadLaw → (name : List ℕ) (before after : Draft) (r : Result (Unit {0}) DeckFault)
       → before.notices ≡ [] → IsNamedLoad name before after r
-      → (m : FileMap) (d : Contents) → files ≡ Some m → d.lines ≡ before.store.lines
-      → IsLoadRead (after_append m name d) d after.store.lines after.notices r
+      → (m : FileMap) (d : DeckContents) → files ≡ Some m → d.lines ≡ before.store.lines
+      → IsDeckLoadRead (deck_after_appending m name d) d after.store.lines after.notices r
   draft_known law name before after r none loads m d is_known lines =
-      by r (subst (λ e. IsLoad OutOfMemory (IsTranscript files is_fetch from to) (load_of_name name e)
+      by r (subst (λ e. IsLoad OutOfMemory (IsTranscript files is_fetch from to) (deck_load_of_name name e)
       (λ _. excerpt_in after) r) same loads)
     where
-      same : excerpt_in before ≡ lines_alone d.lines
+      same : excerpt_in before ≡ deck_excerpt_of_lines d.lines
       same = λ i. record { lines = sym lines i; notices = none i }
 
       known : (o : Result Excerpt DeckFault)
-          → HasTranscript (IsTranscript files is_fetch from to) (load_of_name name (lines_alone d.lines)) o
-          → IsErrAnd o MayFail ⊎ (after_append m name d ≡ deck_of_outcome d o)
-      known o h = known_append_law law m name d o
-          (h.0, subst (λ f. AreAnswersOf f h.0) is_known h.1.0, h.2)
+          → HasTranscript (IsTranscript files is_fetch from to) (deck_load_of_name name (deck_excerpt_of_lines d.lines))
+          o
+          → IsErrAnd o MayDeckLoadFailWith ⊎ (deck_after_appending m name d ≡ deck_of_outcome d o)
+      known o h = known_deck_append_law law m name d o
+          (h.0, subst (λ f. AreTranscriptAnswersOf f h.0) is_known h.1.0, h.2)
 
-      ok : IsErrAnd {T = Excerpt} {E = DeckFault} (Ok (excerpt_in after)) MayFail
-          ⊎ (after_append m name d ≡ deck_of_outcome d (Ok (excerpt_in after)))
-          → after_append m name d ≡ Ok (record d { lines = after.store.lines; notices = after.notices })
+      ok : IsErrAnd {T = Excerpt} {E = DeckFault} (Ok (excerpt_in after)) MayDeckLoadFailWith
+          ⊎ (deck_after_appending m name d ≡ deck_of_outcome d (Ok (excerpt_in after)))
+          → deck_after_appending m name d ≡ Ok (record d { lines = after.store.lines; notices = after.notices })
       ok (inl h) = absurd h
       ok (inr e) = e
 
       by : (r : Result (Unit {0}) DeckFault)
-          → IsLoad OutOfMemory (IsTranscript files is_fetch from to) (load_of_name name (lines_alone d.lines))
+          → IsLoad OutOfMemory (IsTranscript files is_fetch from to)
+          (deck_load_of_name name (deck_excerpt_of_lines d.lines))
           (λ _. excerpt_in after) r
-          → IsLoadRead (after_append m name d) d after.store.lines after.notices r
+          → IsDeckLoadRead (deck_after_appending m name d) d after.store.lines after.notices r
       by (Ok u) h = ok (known (Ok (excerpt_in after)) h)
       by (Err fault) (inl e) = inl (inl e)
       by (Err fault) (inr h) = known (Err fault) h
@@ -120,46 +122,50 @@ module _ {State : Type 0} (files : Option FileMap) (is_fetch : FetchRelation Sta
 -- a text is loaded as the file of a deck that includes no other file
 pub text_known : {State : Type 0} (is_fetch : FetchRelation State) (from to : State) → KnownLoadLaw
     → (name bytes : List ℕ) (settings : Settings) (before after : Draft) (r : Result (Unit {0}) LoadFault)
-    → excerpt_in before ≡ lines_alone []
-    → IsLoad load.OutOfMemory (IsTranscript (Some no_files) is_fetch from to)
+    → excerpt_in before ≡ deck_excerpt_of_lines []
+    → IsLoad load.OutOfMemory (IsTranscript (Some no_files_in_map) is_fetch from to)
     (load_of_file name bytes (excerpt_in before)) (λ _. excerpt_in after) r
     → 0 ≡ faults_after_load 0 r
     → MatchResult r
-    (λ _. after_text bytes name settings
+    (λ _. deck_after_text_loading bytes name settings
     ≡ Ok (record { lines = after.store.lines; settings = settings; notices = after.notices }))
-    (λ fault. (fault_of_load fault ≡ OutOfMemory) ⊎ (after_text bytes name settings ≡ Err (fault_of_load fault)))
+    (λ fault. (deck_fault_of_load fault ≡ OutOfMemory) ⊎
+    (deck_after_text_loading bytes name settings ≡ Err (deck_fault_of_load fault)))
 text_known is_fetch from to law name bytes settings before after r none loads counted =
-    by r (subst (λ e. IsLoad load.OutOfMemory (IsTranscript (Some no_files) is_fetch from to)
+    by r (subst (λ e. IsLoad load.OutOfMemory (IsTranscript (Some no_files_in_map) is_fetch from to)
     (load_of_file name bytes e)
     (λ _. excerpt_in after) r) none loads) counted
   where
     known : (o : Result Excerpt LoadFault)
-        → HasTranscript (IsTranscript (Some no_files) is_fetch from to) (load_of_file name bytes (lines_alone [])) o
-        → IsErrAnd (of_load o) MayFail
-        ⊎ (after_text bytes name settings ≡ deck_of_outcome (empty_deck settings) (of_load o))
-    known o h = read_known law no_files name (empty_deck settings) bytes (h.0 ++ []) [] o
-        (subst (AreAnswersOf (Some no_files)) (sym (append-nil h.0)) h.1.0) (h.2 [])
+        → HasTranscript (IsTranscript (Some no_files_in_map) is_fetch from to)
+        (load_of_file name bytes (deck_excerpt_of_lines [])) o
+        → IsErrAnd (of_load o) MayDeckLoadFailWith
+        ⊎ (deck_after_text_loading bytes name settings ≡ deck_of_outcome (empty_deck settings) (of_load o))
+    known o h = read_known law no_files_in_map name (empty_deck settings) bytes (h.0 ++ []) [] o
+        (subst (AreTranscriptAnswersOf (Some no_files_in_map)) (sym (append-nil h.0)) h.1.0) (h.2 [])
 
-    deck : Contents
+    deck : DeckContents
     deck = record { lines = after.store.lines; settings = settings; notices = after.notices }
 
-    ok : IsErrAnd {T = Excerpt} {E = DeckFault} (Ok (excerpt_in after)) MayFail
-        ⊎ (after_text bytes name settings ≡ Ok deck) → after_text bytes name settings ≡ Ok deck
+    ok : IsErrAnd {T = Excerpt} {E = DeckFault} (Ok (excerpt_in after)) MayDeckLoadFailWith
+        ⊎ (deck_after_text_loading bytes name settings ≡ Ok deck) → deck_after_text_loading bytes name settings ≡ Ok
+        deck
     ok (inl h) = absurd h
     ok (inr e) = e
 
-    full : MayFail DeckFull ⊎ (after_text bytes name settings ≡ Err DeckFull)
-        → after_text bytes name settings ≡ Err DeckFull
+    full : MayDeckLoadFailWith DeckFull ⊎ (deck_after_text_loading bytes name settings ≡ Err DeckFull)
+        → deck_after_text_loading bytes name settings ≡ Err DeckFull
     full (inl (inl e)) = cc
     full (inl (inr e)) = cc
     full (inr e) = e
 
     by : (r : Result (Unit {0}) LoadFault)
-        → IsLoad load.OutOfMemory (IsTranscript (Some no_files) is_fetch from to)
-        (load_of_file name bytes (lines_alone [])) (λ _. excerpt_in after) r
+        → IsLoad load.OutOfMemory (IsTranscript (Some no_files_in_map) is_fetch from to)
+        (load_of_file name bytes (deck_excerpt_of_lines [])) (λ _. excerpt_in after) r
         → 0 ≡ faults_after_load 0 r
-        → MatchResult r (λ _. after_text bytes name settings ≡ Ok deck)
-        (λ fault. (fault_of_load fault ≡ OutOfMemory) ⊎ (after_text bytes name settings ≡ Err (fault_of_load fault)))
+        → MatchResult r (λ _. deck_after_text_loading bytes name settings ≡ Ok deck)
+        (λ fault. (deck_fault_of_load fault ≡ OutOfMemory) ⊎
+        (deck_after_text_loading bytes name settings ≡ Err (deck_fault_of_load fault)))
     by (Ok u) h e = ok (known (Ok (excerpt_in after)) h)
     by (Err load.OutOfMemory) h e = inl refl
     by (Err load.ReadFailed) h e = absurd (omega (arith, e))

@@ -19,7 +19,7 @@ mod LastLine
 mod LastPlaceSteps
 mod DistinctKeys
 mod DraftLoads
-mod MarkedLines
+mod ActiveLineFlags
 mod PlaceSlots
 mod NumberedKeys
 mod KeysByNumber

@@ -12,28 +12,30 @@ use Rattle.def_entry.specs.declared.key.Kind.{Kind}
 use Rattle.def_entry.specs.declared.key.Kind.TheVariants as kind
 use Rattle.def_entry.specs.Entries.{Entry}
 use Rattle.def_entry.specs.Keys.{key}
-use Rattle.def_entry.specs.SameKeys.{is_same, is_same_kind}
+use Rattle.def_entry.specs.SameKeys.{is_same_entry_key, is_same_key_kind}
 use Rattle.deck_lines.specs.ClosedBlocks.{AreBlocksClosed}
-use Rattle.deck_lines.specs.Loads.{Extends, with_definitions}
-use Rattle.deck_lines.specs.Names.{Names, is_numbered, key_numbered, names_of_kind, with_key, with_name, with_names}
-use Rattle.deck_lines.specs.KeyNumbering.{IsNumbering}
-use Rattle.deck_lines.specs.Readings.{entry_in}
-use Rattle.deck_lines.specs.Stores.{Store, definition_at, with_definition}
+use Rattle.deck_lines.specs.Loads.{ExtendsStore, key_numbers_by_definitions}
+use Rattle.deck_lines.specs.Names.{KeyNumberNames, is_key_numbered, key_number_names_of_kind}
+use Rattle.deck_lines.specs.Names.{key_number_names_with_kind, key_number_names_with_name, key_numbered}
+use Rattle.deck_lines.specs.Names.{key_numbers_with_key}
+use Rattle.deck_lines.specs.KeyNumbering.{IsKeyNumbering}
+use Rattle.deck_lines.specs.Readings.{entry_in_store_line}
+use Rattle.deck_lines.specs.Stores.{LineStoreView, key_numbers_by_definition, store_definition_at}
 use Rattle.deck_lines.specs.declared.key_number.KeyNumber.{KeyNumber}
 use Rattle.deck_lines.specs.declared.line.DeckLine.{DeckLine}
-use Rattle.deck.specs.LastPlaces.{AreLast, IsIndexed}
-use Rattle.deck.specs.Numbers.{AreInPlace}
-use Rattle.deck.specs.Tables.{Definitions, active_definitions, place_of}
+use Rattle.deck.specs.LastPlaces.{AreLastDefinitionPlaces, IsDeckIndexed}
+use Rattle.deck.specs.Numbers.{AreDefinitionsInPlace}
+use Rattle.deck.specs.Tables.{DeckDefinitions, active_definitions, definition_place_of}
 use Rattle.deck.specs.declared.places.last_places.LastPlaces.{LastPlaces}
 use Rattle.deck.specs.declared.settings.Settings.{Settings}
-use Rattle.deck.proofs.LastPlaceSteps.{last_extended}
-use Rattle.deck.proofs.PlacedDefinitions.{in_place}
+use Rattle.deck.proofs.LastPlaceSteps.{last_definition_places_extended}
+use Rattle.deck.proofs.PlacedDefinitions.{active_definitions_in_place}
 use Rattle.general_lemmas.proofs.Places.{get_left}
 
 -- if some item of a list passes a test, so does some item of an extension of the list
-any_more : (p : List ℕ → Bool) (xs ys : List (List ℕ)) → list_any p xs ≡ true → list_any p (xs ++ ys) ≡ true
-any_more p [] ys h = cc
-any_more p (x ∷ xs) ys h = by (any_more p xs ys) (p x) h
+any_deck_name_more : (p : List ℕ → Bool) (xs ys : List (List ℕ)) → list_any p xs ≡ true → list_any p (xs ++ ys) ≡ true
+any_deck_name_more p [] ys h = cc
+any_deck_name_more p (x ∷ xs) ys h = by (any_deck_name_more p xs ys) (p x) h
   where
     by : (list_any p xs ≡ true → list_any p (xs ++ ys) ≡ true) → (b : Bool) → (b || list_any p xs) ≡ true
         → (b || list_any p (xs ++ ys)) ≡ true
@@ -41,45 +43,50 @@ any_more p (x ∷ xs) ys h = by (any_more p xs ys) (p x) h
     by ih false g = ih g
 
 -- an item that is new in a list with one item appended is the appended item
-get_last : {A : Type 0} (xs : List A) (y : A) (i : ℕ) (x : A) → slice_get xs i ≡ None
+new_deck_item_is_appended : {A : Type 0} (xs : List A) (y : A) (i : ℕ) (x : A) → slice_get xs i ≡ None
     → slice_get (xs ++ y ∷ []) i ≡ Some x → y ≡ x
-get_last [] y zero x h g = same_Some y x g
-get_last [] y (suc i) x h g = cc
-get_last (z ∷ xs) y zero x h g = cc
-get_last (z ∷ xs) y (suc i) x h g = get_last xs y i x h g
+new_deck_item_is_appended [] y zero x h g = same_Some y x g
+new_deck_item_is_appended [] y (suc i) x h g = cc
+new_deck_item_is_appended (z ∷ xs) y zero x h g = cc
+new_deck_item_is_appended (z ∷ xs) y (suc i) x h g = new_deck_item_is_appended xs y i x h g
 
 module _ (new : List ℕ) (names : List (List ℕ)) where
-  name_stays : (i : ℕ) (name : List ℕ) → slice_get names i ≡ Some name → slice_get (with_name new names) i ≡ Some name
+  name_stays : (i : ℕ) (name : List ℕ) → slice_get names i ≡ Some name
+      → slice_get (key_number_names_with_name new names) i ≡ Some name
   name_stays i name h = by (list_any (bytes_eq new) names)
     where
       by : (b : Bool) → slice_get (cond b names (names ++ new ∷ [])) i ≡ Some name
       by true = h
       by false = get_left names (new ∷ []) i name h
 
-  name_among : (p : List ℕ → Bool) → list_any p names ≡ true → list_any p (with_name new names) ≡ true
+  name_among : (p : List ℕ → Bool) → list_any p names ≡ true → list_any p (key_number_names_with_name new names) ≡ true
   name_among p h = by (list_any (bytes_eq new) names)
     where
       by : (b : Bool) → list_any p (cond b names (names ++ new ∷ [])) ≡ true
       by true = h
-      by false = any_more p names (new ∷ []) h
+      by false = any_deck_name_more p names (new ∷ []) h
 
-  name_new : (i : ℕ) (name : List ℕ) → slice_get names i ≡ None → slice_get (with_name new names) i ≡ Some name
+  name_new : (i : ℕ) (name : List ℕ) → slice_get names i ≡ None → slice_get (key_number_names_with_name new names)
+      i ≡ Some name
       → list_any (bytes_eq name) names ≡ false
   name_new i name h g = by (list_any (bytes_eq new) names) refl g
     where
       by : (b : Bool) → list_any (bytes_eq new) names ≡ b → slice_get (cond b names (names ++ new ∷ [])) i ≡ Some name
           → list_any (bytes_eq name) names ≡ false
       by true e f = cc
-      by false e f = ap (λ n. list_any (bytes_eq n) names) (sym (get_last names new i name h f)) ∙ e
+      by false e f = ap (λ n. list_any (bytes_eq n) names) (sym (new_deck_item_is_appended names new i name h f)) ∙ e
 
 -- only the names of the kind of the key change when the key gets a number
-names_by : (names : Names) (k : Key) (a : Kind)
-    → names_of_kind (with_key names k) a
-    ≡ cond (is_same_kind a k.kind) (with_name k.name (names_of_kind names a)) (names_of_kind names a)
-names_by names k a = by k.kind a
+deck_names_with_key : (names : KeyNumberNames) (k : Key) (a : Kind)
+    → key_number_names_of_kind (key_numbers_with_key names k) a
+    ≡ cond (is_same_key_kind a k.kind) (key_number_names_with_name k.name (key_number_names_of_kind names a))
+    (key_number_names_of_kind names a)
+deck_names_with_key names k a = by k.kind a
   where
-    by : (b a : Kind) → names_of_kind (with_names names b (with_name k.name (names_of_kind names b))) a
-        ≡ cond (is_same_kind a b) (with_name k.name (names_of_kind names a)) (names_of_kind names a)
+    by : (b a : Kind) → key_number_names_of_kind
+        (key_number_names_with_kind names b (key_number_names_with_name k.name (key_number_names_of_kind names b))) a
+        ≡ cond (is_same_key_kind a b) (key_number_names_with_name k.name (key_number_names_of_kind names a))
+        (key_number_names_of_kind names a)
     by kind.Unit kind.Unit = refl
     by kind.Unit kind.Prefix = refl
     by kind.Unit kind.Func = refl
@@ -105,16 +112,17 @@ pub record IsMore (old new : List (List ℕ)) : Type 0 where
       → list_any (bytes_eq name) old ≡ false
 
 -- a list of names extends itself
-more_same : (names : List (List ℕ)) → IsMore names names
-more_same names = record { stays = λ i name h. h; among = λ p h. h; fresh = λ i name h g. cc }
+more_deck_names_reflexive : (names : List (List ℕ)) → IsMore names names
+more_deck_names_reflexive names = record { stays = λ i name h. h; among = λ p h. h; fresh = λ i name h g. cc }
 
 -- a list with one more name extends the list
-more_one : (new : List ℕ) (names : List (List ℕ)) → IsMore names (with_name new names)
-more_one new names = record { stays = name_stays new names; among = name_among new names; fresh = name_new new names }
+more_deck_names_by_one : (new : List ℕ) (names : List (List ℕ)) → IsMore names (key_number_names_with_name new names)
+more_deck_names_by_one new names =
+    record { stays = name_stays new names; among = name_among new names; fresh = name_new new names }
 
 -- extension is transitive
-more_then : (a b c : List (List ℕ)) → IsMore a b → IsMore b c → IsMore a c
-more_then a b c f g = record {
+more_deck_names_trans : (a b c : List (List ℕ)) → IsMore a b → IsMore b c → IsMore a c
+more_deck_names_trans a b c f g = record {
   stays = λ i name h. g.stays i name (f.stays i name h);
   among = λ p h. g.among p (f.among p h);
   fresh = λ i name h e. by i name h e (slice_get b i) refl;
@@ -136,113 +144,133 @@ more_then a b c f g = record {
         f.fresh i name h (q ∙ ap Some same)
 
 -- a number for one more key extends the names of each kind
-more_key : (names : Names) (k : Key) (a : Kind) → IsMore (names_of_kind names a) (names_of_kind (with_key names k) a)
-more_key names k a = subst (IsMore (names_of_kind names a)) (sym (names_by names k a)) (by (is_same_kind a k.kind))
+more_deck_names_by_key : (names : KeyNumberNames) (k : Key) (a : Kind) → IsMore (key_number_names_of_kind names a)
+    (key_number_names_of_kind (key_numbers_with_key names k) a)
+more_deck_names_by_key names k a = subst (IsMore (key_number_names_of_kind names a))
+    (sym (deck_names_with_key names k a)) (by (is_same_key_kind a k.kind))
   where
-    by : (b : Bool) → IsMore (names_of_kind names a)
-        (cond b (with_name k.name (names_of_kind names a)) (names_of_kind names a))
-    by true = more_one k.name (names_of_kind names a)
-    by false = more_same (names_of_kind names a)
+    by : (b : Bool) → IsMore (key_number_names_of_kind names a)
+        (cond b (key_number_names_with_name k.name (key_number_names_of_kind names a))
+        (key_number_names_of_kind names a))
+    by true = more_deck_names_by_one k.name (key_number_names_of_kind names a)
+    by false = more_deck_names_reflexive (key_number_names_of_kind names a)
 
 -- the definition of a line extends the names of each kind
-more_definition : (names : Names) (o : Option (Key × Entry)) (a : Kind)
-    → IsMore (names_of_kind names a) (names_of_kind (with_definition names o) a)
-more_definition names None a = more_same (names_of_kind names a)
-more_definition names (Some d) a = more_key names d.0 a
+more_deck_names_by_definition : (names : KeyNumberNames) (o : Option (Key × Entry)) (a : Kind)
+    → IsMore (key_number_names_of_kind names a) (key_number_names_of_kind (key_numbers_by_definition names o) a)
+more_deck_names_by_definition names None a = more_deck_names_reflexive (key_number_names_of_kind names a)
+more_deck_names_by_definition names (Some d) a = more_deck_names_by_key names d.0 a
 
 -- the definitions of more lines extend the names of each kind
-pub more_lines : (lines : List DeckLine) (names : Names) (a : Kind)
-    → IsMore (names_of_kind names a) (names_of_kind (with_definitions names lines) a)
-more_lines [] names a = more_same (names_of_kind names a)
-more_lines (line ∷ lines) names a =
-    more_then (names_of_kind names a) (names_of_kind (with_definition names (entry_in line)) a)
-    (names_of_kind (with_definitions names (line ∷ lines)) a)
-    (more_definition names (entry_in line) a) (more_lines lines (with_definition names (entry_in line)) a)
+pub more_deck_names_by_lines : (lines : List DeckLine) (names : KeyNumberNames) (a : Kind)
+    → IsMore (key_number_names_of_kind names a) (key_number_names_of_kind (key_numbers_by_definitions names lines) a)
+more_deck_names_by_lines [] names a = more_deck_names_reflexive (key_number_names_of_kind names a)
+more_deck_names_by_lines (line ∷ lines) names a =
+    more_deck_names_trans (key_number_names_of_kind names a)
+    (key_number_names_of_kind (key_numbers_by_definition names (entry_in_store_line line)) a)
+    (key_number_names_of_kind (key_numbers_by_definitions names (line ∷ lines)) a)
+    (more_deck_names_by_definition names (entry_in_store_line line) a)
+    (more_deck_names_by_lines lines (key_numbers_by_definition names (entry_in_store_line line)) a)
 
 -- the definition at a place stays the same when lines are appended
-definition_more : (xs ys : List DeckLine) (place : ℕ) (e : Key × Entry) → definition_at xs place ≡ Some e
-    → definition_at (xs ++ ys) place ≡ Some e
-definition_more xs ys place e h = by (slice_get xs place) refl h
+definition_at_place_stays : (xs ys : List DeckLine) (place : ℕ) (e : Key × Entry)
+    → store_definition_at xs place ≡ Some e
+    → store_definition_at (xs ++ ys) place ≡ Some e
+definition_at_place_stays xs ys place e h = by (slice_get xs place) refl h
   where
-    by : (o : Option DeckLine) → slice_get xs place ≡ o → option_and_then entry_in o ≡ Some e
-        → option_and_then entry_in (slice_get (xs ++ ys) place) ≡ Some e
+    by : (o : Option DeckLine) → slice_get xs place ≡ o → option_and_then entry_in_store_line o ≡ Some e
+        → option_and_then entry_in_store_line (slice_get (xs ++ ys) place) ≡ Some e
     by None q g = cc
-    by (Some x) q g = ap (option_and_then entry_in) (get_left xs ys place x q) ∙ g
+    by (Some x) q g = ap (option_and_then entry_in_store_line) (get_left xs ys place x q) ∙ g
 
 -- definitions stay in place when lines are appended
-pub in_place_more : (xs ys : List DeckLine) (ds : Definitions) → AreInPlace xs ds → AreInPlace (xs ++ ys) ds
-in_place_more xs ys ds h = λ k d e. definition_more xs ys d.0 (k, d.1) (h k d e)
+pub definitions_in_place_more : (xs ys : List DeckLine) (ds : DeckDefinitions) → AreDefinitionsInPlace xs ds
+    → AreDefinitionsInPlace (xs ++ ys) ds
+definitions_in_place_more xs ys ds h = λ k d e. definition_at_place_stays xs ys d.0 (k, d.1) (h k d e)
 
 -- definitions stay in place when the store is extended
-pub in_place_behind : (old new : Store) (ds : Definitions) → AreInPlace old.lines ds → Extends old new
-    → AreInPlace new.lines ds
-in_place_behind old new ds h e =
-    subst (λ (s : Store). AreInPlace s.lines ds) (sym e.lines_put) (in_place_more old.lines e.lines ds h)
+pub definitions_in_place_extended : (old new : LineStoreView) (ds : DeckDefinitions)
+    → AreDefinitionsInPlace old.lines ds → ExtendsStore old new
+    → AreDefinitionsInPlace new.lines ds
+definitions_in_place_extended old new ds h e =
+    subst (λ (s : LineStoreView). AreDefinitionsInPlace s.lines ds) (sym e.lines_put)
+    (definitions_in_place_more old.lines e.lines ds h)
 
-module _ (old new : Names) (each : (a : Kind) → IsMore (names_of_kind old a) (names_of_kind new a)) where
+module _ (old new : KeyNumberNames)
+    (each : (a : Kind) → IsMore (key_number_names_of_kind old a) (key_number_names_of_kind new a)) where
   key_stays : (n : KeyNumber) (k : Key) → key_numbered old n ≡ Some k → key_numbered new n ≡ Some k
-  key_stays n k h = by (slice_get (names_of_kind old n.kind) n.number) refl h
+  key_stays n k h = by (slice_get (key_number_names_of_kind old n.kind) n.number) refl h
     where
-      by : (o : Option (List ℕ)) → slice_get (names_of_kind old n.kind) n.number ≡ o
+      by : (o : Option (List ℕ)) → slice_get (key_number_names_of_kind old n.kind) n.number ≡ o
           → option_map (key n.kind) o ≡ Some k
           → key_numbered new n ≡ Some k
       by None q g = cc
       by (Some name) q g = ap (option_map (key n.kind)) ((each n.kind).stays n.number name q) ∙ g
 
   key_fresh : (n : KeyNumber) (k : Key) → key_numbered old n ≡ None → key_numbered new n ≡ Some k
-      → is_numbered old k ≡ false
+      → is_key_numbered old k ≡ false
   key_fresh n k h g =
-      by (slice_get (names_of_kind old n.kind) n.number) refl h (slice_get (names_of_kind new n.kind) n.number) refl g
+      by (slice_get (key_number_names_of_kind old n.kind) n.number) refl h
+      (slice_get (key_number_names_of_kind new n.kind) n.number) refl g
     where
-      by : (o : Option (List ℕ)) → slice_get (names_of_kind old n.kind) n.number ≡ o → option_map (key n.kind) o ≡ None
+      by : (o : Option (List ℕ)) → slice_get (key_number_names_of_kind old n.kind) n.number ≡ o
+          → option_map (key n.kind) o ≡ None
           →
-          (p : Option (List ℕ)) → slice_get (names_of_kind new n.kind) n.number ≡ p → option_map (key n.kind) p ≡ Some k
-          → is_numbered old k ≡ false
+          (p : Option (List ℕ)) → slice_get (key_number_names_of_kind new n.kind) n.number ≡ p
+          → option_map (key n.kind) p ≡ Some k
+          → is_key_numbered old k ≡ false
       by (Some name) q e p r f = cc
       by None q e None r f = cc
       by None q e (Some name) r f =
-          subst (λ j. is_numbered old j ≡ false) (same_Some (key n.kind name) k f)
+          subst (λ j. is_key_numbered old j ≡ false) (same_Some (key n.kind name) k f)
           ((each n.kind).fresh n.number name q r)
 
 -- a key without a number has no last place
-pub unplaced : (store : Store) (settings : Settings) (k : Key) → IsNumbering store → is_numbered store.names k ≡ false
-    → place_of (active_definitions settings store.lines) k ≡ None
-unplaced store settings k numbering h = by (lookup (is_same k) (active_definitions settings store.lines)) refl
+pub unnumbered_has_no_definition_place : (store : LineStoreView) (settings : Settings) (k : Key) → IsKeyNumbering store
+    → is_key_numbered store.names k ≡ false
+    → definition_place_of (active_definitions settings store.lines) k ≡ None
+unnumbered_has_no_definition_place store settings k numbering h =
+    by (lookup (is_same_entry_key k) (active_definitions settings store.lines)) refl
   where
-    by : (o : Option (ℕ × Entry)) → lookup (is_same k) (active_definitions settings store.lines) ≡ o
+    by : (o : Option (ℕ × Entry)) → lookup (is_same_entry_key k) (active_definitions settings store.lines) ≡ o
         → option_map (λ p. p.0) o ≡ None
     by None q = refl
     by (Some d) q =
-        let numbered : is_numbered store.names k ≡ true =
-        numbering.definition_numbers d.0 (k, d.1) (in_place settings store.lines k d q) in
+        let numbered : is_key_numbered store.names k ≡ true =
+        numbering.definition_numbers d.0 (k, d.1) (active_definitions_in_place settings store.lines k d q) in
         absurd (true≢false (sym numbered ∙ h))
 
 -- the last places stay valid when lines are appended and their keys get numbers
-pub last_behind : (old new : Store) (settings : Settings) (last : LastPlaces) → IsNumbering old
-    → AreLast old.names (active_definitions settings old.lines) last → Extends old new
-    → AreLast new.names (active_definitions settings old.lines) last
-last_behind old new settings last numbering h e =
-    let each : (a : Kind) → IsMore (names_of_kind old.names a) (names_of_kind new.names a) =
-    λ a. subst (λ (s : Store). IsMore (names_of_kind old.names a) (names_of_kind s.names a)) (sym e.lines_put)
-    (more_lines e.lines old.names a) in
-    last_extended old.names new.names (active_definitions settings old.lines) last h
+pub last_definition_places_grown : (old new : LineStoreView) (settings : Settings) (last : LastPlaces)
+    → IsKeyNumbering old
+    → AreLastDefinitionPlaces old.names (active_definitions settings old.lines) last → ExtendsStore old new
+    → AreLastDefinitionPlaces new.names (active_definitions settings old.lines) last
+last_definition_places_grown old new settings last numbering h e =
+    let each : (a : Kind) → IsMore (key_number_names_of_kind old.names a) (key_number_names_of_kind new.names a) =
+    λ a. subst (λ (s : LineStoreView). IsMore (key_number_names_of_kind old.names a)
+    (key_number_names_of_kind s.names a)) (sym e.lines_put)
+    (more_deck_names_by_lines e.lines old.names a) in
+    last_definition_places_extended old.names new.names (active_definitions settings old.lines) last h
     (key_stays old.names new.names each)
-    (λ n k none some. unplaced old settings k numbering (key_fresh old.names new.names each n k none some))
+    (λ n k none some. unnumbered_has_no_definition_place old settings k numbering
+    (key_fresh old.names new.names each n k none some))
 
 -- the old lines are the front of the extended store
-pub front_kept : (old new : Store) (n : ℕ) → n ≡ length old.lines → Extends old new → take n new.lines ≡ old.lines
-front_kept old new n same e = ap (λ m. take m new.lines) same
-    ∙ ap (λ (s : Store). take (length old.lines) s.lines) e.lines_put
+pub old_deck_lines_are_front : (old new : LineStoreView) (n : ℕ) → n ≡ length old.lines → ExtendsStore old new
+    → take n new.lines ≡ old.lines
+old_deck_lines_are_front old new n same e = ap (λ m. take m new.lines) same
+    ∙ ap (λ (s : LineStoreView). take (length old.lines) s.lines) e.lines_put
     ∙ take_at old.lines e.lines (length old.lines) refl
 
 -- after a refusal removes the appended lines, the last places are still those of the store
-pub indexed_again : (old new store : Store) (settings : Settings) (last : LastPlaces) → IsNumbering old
-    → IsIndexed old settings last → Extends old new → store.lines ≡ old.lines → store.names ≡ new.names
-    → IsIndexed store settings last
-indexed_again old new store settings last numbering h e lines names = record {
+pub deck_indexed_after_refusal : (old new store : LineStoreView) (settings : Settings) (last : LastPlaces)
+    → IsKeyNumbering old
+    → IsDeckIndexed old settings last → ExtendsStore old new → store.lines ≡ old.lines → store.names ≡ new.names
+    → IsDeckIndexed store settings last
+deck_indexed_after_refusal old new store settings last numbering h e lines names = record {
   blocks_closed = subst AreBlocksClosed (sym lines) h.blocks_closed;
   places =
-      subst (λ ls. AreLast store.names (active_definitions settings ls) last) (sym lines)
-      (subst (λ ns. AreLast ns (active_definitions settings old.lines) last) (sym names)
-      (last_behind old new settings last numbering h.places e));
+      subst (λ ls. AreLastDefinitionPlaces store.names (active_definitions settings ls) last) (sym lines)
+      (subst (λ ns. AreLastDefinitionPlaces ns (active_definitions settings old.lines) last) (sym names)
+      (last_definition_places_grown old new settings last numbering h.places e));
 }

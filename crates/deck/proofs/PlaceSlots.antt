@@ -2,10 +2,10 @@
 use Rattle.std.proofs.Common.{◌≡◌, [], ◌∷◌, ℕ, zero, suc, List, Bool, true, false, cond, map, set, refl, sym, ap, ◌∙◌}
 use Rattle.std.proofs.Common.{Option, Some, None, option_map, ◌++◌, ◌+◌, add-one, drop, take}
 use Rattle.std.specs.List.{remove}
-use Rattle.gap_list.specs.Gaps.{place_without, with_gap, without_gap}
-use Rattle.gap_list.proofs.SlotItems.{place_moved}
-use Rattle.deck.specs.KindPlaces.{HasSamePlaces}
-use Rattle.deck.proofs.KindPlacing.{count_mapped, in_mapped}
+use Rattle.gap_list.specs.Gaps.{place_without_gaps, with_gap, without_gap}
+use Rattle.gap_list.proofs.SlotItems.{place_moved_by_gap}
+use Rattle.deck.specs.KindPlaces.{HasSameDefinitionPlaces}
+use Rattle.deck.proofs.KindPlacing.{definition_place_count_mapped, definition_place_in_mapped}
 
 -- the place of each number is mapped
 module _ (f : ℕ → ℕ) where
@@ -28,29 +28,35 @@ module _ (f : ℕ → ℕ) where
   map-other true new old e = refl
   map-other false new old e = ap (map (option_map f)) e
 
-  pub map-same : (old new : List (Option ℕ)) → HasSamePlaces old new
-      → HasSamePlaces (map (option_map f) old) (map (option_map f) new)
+  pub map-same : (old new : List (Option ℕ)) → HasSameDefinitionPlaces old new
+      → HasSameDefinitionPlaces (map (option_map f) old) (map (option_map f) new)
   map-same old new same = record {
-    place = λ n. in_mapped f new n ∙ ap (option_map f) (same.place n) ∙ sym (in_mapped f old n);
-    count = count_mapped f new ∙ same.count ∙ sym (count_mapped f old);
+    place = λ n. definition_place_in_mapped f new n ∙ ap (option_map f) (same.place n)
+        ∙ sym (definition_place_in_mapped f old n);
+    count = definition_place_count_mapped f new ∙ same.count ∙ sym (definition_place_count_mapped f old);
   }
 
 -- without gaps, slots are places
-pub map-no_gaps : (ps : List (Option ℕ)) → map (option_map (place_without [])) ps ≡ ps
-map-no_gaps [] = refl
-map-no_gaps (None ∷ ps) = ap {B = List (Option ℕ)} (λ qs. None ∷ qs) (map-no_gaps ps)
-map-no_gaps (Some p ∷ ps) = ap {B = List (Option ℕ)} (λ qs. Some p ∷ qs) (map-no_gaps ps)
+pub definition_places_map-no_gaps : (ps : List (Option ℕ)) → map (option_map (place_without_gaps [])) ps ≡ ps
+definition_places_map-no_gaps [] = refl
+definition_places_map-no_gaps (None ∷ ps) = ap {B = List (Option ℕ)} (λ qs. None ∷ qs)
+    (definition_places_map-no_gaps ps)
+definition_places_map-no_gaps (Some p ∷ ps) = ap {B = List (Option ℕ)} (λ qs. Some p ∷ qs)
+    (definition_places_map-no_gaps ps)
 
 -- one more gap moves the places after it
-pub map-gap : (gap : ℕ) (gaps : List ℕ) (ps : List (Option ℕ))
-    → map (option_map (place_without (with_gap gap gaps))) ps
-    ≡ map (option_map (without_gap gap)) (map (option_map (place_without gaps)) ps)
-map-gap gap gaps [] = refl
-map-gap gap gaps (None ∷ ps) = ap {B = List (Option ℕ)} (λ qs. None ∷ qs) (map-gap gap gaps ps)
-map-gap gap gaps (Some p ∷ ps) =
-    let one : place_without (with_gap gap gaps) p ≡ without_gap gap (place_without gaps p) = place_moved gaps gap p in
-    let rest : map (option_map (place_without (with_gap gap gaps))) ps
-    ≡ map (option_map (without_gap gap)) (map (option_map (place_without gaps)) ps) = map-gap gap gaps ps in
+pub definition_places_map-gap : (gap : ℕ) (gaps : List ℕ) (ps : List (Option ℕ))
+    → map (option_map (place_without_gaps (with_gap gap gaps))) ps
+    ≡ map (option_map (without_gap gap)) (map (option_map (place_without_gaps gaps)) ps)
+definition_places_map-gap gap gaps [] = refl
+definition_places_map-gap gap gaps (None ∷ ps) = ap {B = List (Option ℕ)} (λ qs. None ∷ qs)
+    (definition_places_map-gap gap gaps ps)
+definition_places_map-gap gap gaps (Some p ∷ ps) =
+    let one : place_without_gaps (with_gap gap gaps) p ≡ without_gap gap (place_without_gaps gaps p) =
+    place_moved_by_gap gaps gap p in
+    let rest : map (option_map (place_without_gaps (with_gap gap gaps))) ps
+    ≡ map (option_map (without_gap gap)) (map (option_map (place_without_gaps gaps)) ps) =
+    definition_places_map-gap gap gaps ps in
     λ i. Some (one i) ∷ rest i
 
 module _ (f : ℕ → ℕ) where

@@ -11,44 +11,50 @@ use Rattle.std.specs.Option.{option_and_then}
 use Rattle.std.specs.declared.cmp.Ordering.{Ordering}
 use Rattle.def_entry.specs.declared.key.Key.{Key}
 use Rattle.def_entry.specs.Entries.{Entry}
-use Rattle.def_entry.specs.SameKeys.{is_same}
+use Rattle.def_entry.specs.SameKeys.{is_same_entry_key}
 use Rattle.deck_lines.specs.Names.{key_numbered}
-use Rattle.deck_lines.specs.Stores.{Store, definition_at}
+use Rattle.deck_lines.specs.Stores.{LineStoreView, store_definition_at}
 use Rattle.deck_lines.specs.declared.line.DeckLine.{DeckLine}
-use Rattle.deck.specs.LastPlaces.{AreLast}
-use Rattle.deck.specs.Numbers.{AreInPlace}
-use Rattle.deck.specs.PlacedKeys.{ArePlaced, IsInPlace, key_there, keys_there, placed_key}
-use Rattle.deck.specs.Tables.{Definitions, place_of}
+use Rattle.deck.specs.LastPlaces.{AreLastDefinitionPlaces}
+use Rattle.deck.specs.Numbers.{AreDefinitionsInPlace}
+use Rattle.deck.specs.PlacedKeys.{AreKeysInDefinitionPlaces, IsKeyInDefinitionPlace, deck_key_at_place}
+use Rattle.deck.specs.PlacedKeys.{deck_keys_at_places, placed_deck_key}
+use Rattle.deck.specs.Tables.{DeckDefinitions, definition_place_of}
 use Rattle.deck.specs.declared.deck.placed_keys.PlacedKey.{PlacedKey}
 use Rattle.deck.specs.declared.places.last_places.LastPlaces.{LastPlaces}
 
-module _ (lines : List DeckLine) (ds : Definitions) (placed : AreInPlace lines ds) where
-  there : (k : Key) (place : ℕ) → place_of ds k ≡ Some place → key_there lines place ≡ Some k
-  there k place = by (lookup (is_same k) ds) refl
+module _ (lines : List DeckLine) (ds : DeckDefinitions) (placed : AreDefinitionsInPlace lines ds) where
+  there : (k : Key) (place : ℕ) → definition_place_of ds k ≡ Some place → deck_key_at_place lines place ≡ Some k
+  there k place = by (lookup (is_same_entry_key k) ds) refl
     where
-      by : (o : Option (ℕ × Entry)) → lookup (is_same k) ds ≡ o → option_map (λ p. p.0) o ≡ Some place
-          → key_there lines place ≡ Some k
+      by : (o : Option (ℕ × Entry)) → lookup (is_same_entry_key k) ds ≡ o → option_map (λ p. p.0) o ≡ Some place
+          → deck_key_at_place lines place ≡ Some k
       by None e h = cc
-      by (Some d) e h = ap (key_there lines) (sym (same_Some d.0 place h)) ∙ ap (option_map (λ d. d.0)) (placed k d e)
+      by (Some d) e h = ap (deck_key_at_place lines) (sym (same_Some d.0 place h))
+          ∙ ap (option_map (λ d. d.0)) (placed k d e)
 
-  there_if : (k : Option Key) (place : ℕ) → option_and_then (place_of ds) k ≡ Some place → key_there lines place ≡ k
+  there_if : (k : Option Key) (place : ℕ) → option_and_then (definition_place_of ds) k ≡ Some place
+      → deck_key_at_place lines place ≡ k
   there_if None place h = cc
   there_if (Some k) place h = there k place h
 
 -- if the definitions are in place and the last places are theirs, the line at each last place defines its key
-pub all_placed :
-    (store : Store) (last : LastPlaces) (ds : Definitions) → AreInPlace store.lines ds → AreLast store.names ds last
-    → ArePlaced store last
-all_placed store last ds placed are n place e =
+pub keys_in_definition_places :
+    (store : LineStoreView) (last : LastPlaces) (ds : DeckDefinitions) → AreDefinitionsInPlace store.lines ds
+    → AreLastDefinitionPlaces store.names ds last
+    → AreKeysInDefinitionPlaces store last
+keys_in_definition_places store last ds placed are n place e =
     there_if store.lines ds placed (key_numbered store.names n) place (sym (are.place n) ∙ e)
 
 -- the keys at the places of placed keys are these keys
-pub keys_at_places : (lines : List DeckLine) (ks : List PlacedKey) → All (IsInPlace lines) ks
-    → keys_there lines (map (λ k. k.place) ks) ≡ map placed_key ks
-keys_at_places lines [] h = refl
-keys_at_places lines (k ∷ ks) h =
-    ap (λ o. cons_option o (keys_there lines (map (λ k. k.place) ks))) (All-head (IsInPlace lines) k ks h)
-    ∙ ap (λ rest. placed_key k ∷ rest) (keys_at_places lines ks (All-tail (IsInPlace lines) k ks h))
+pub placed_deck_keys_are_there : (lines : List DeckLine) (ks : List PlacedKey) → All (IsKeyInDefinitionPlace lines) ks
+    → deck_keys_at_places lines (map (λ k. k.place) ks) ≡ map placed_deck_key ks
+placed_deck_keys_are_there lines [] h = refl
+placed_deck_keys_are_there lines (k ∷ ks) h =
+    ap (λ o. cons_option o (deck_keys_at_places lines (map (λ k. k.place) ks)))
+    (All-head (IsKeyInDefinitionPlace lines) k ks h)
+    ∙ ap (λ rest. placed_deck_key k ∷ rest)
+    (placed_deck_keys_are_there lines ks (All-tail (IsKeyInDefinitionPlace lines) k ks h))
 
 -- the keys of a list that is sorted by key are sorted
 pub sorted_map : {X Y : Type 0} (cmp : Y → Y → Ordering) (f : X → Y) (xs : List X) → IsSortedByKey f cmp xs

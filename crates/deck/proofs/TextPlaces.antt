@@ -1,7 +1,6 @@
 -- A search for a text succeeds exactly if the bytes contain the text.
-use Rattle.std.proofs.Common.{◌≡◌, ◌∙◌, ◌+◌, ◌<◌, ◌||◌, ℕ, zero, suc, List, [], ◌∷◌, Bool, true, false}
-use Rattle.std.proofs.Common.{Option, Some, None, arith, get_or, is_some, length, length-take, nat_eq, refl, sym, ap}
-use Rattle.std.proofs.Common.{take}
+use Rattle.std.proofs.Common.{◌≡◌, ◌∙◌, ◌+◌, ◌<◌, ◌||◌, ℕ, zero, suc, List, [], ◌∷◌, Bool, true, false, Option, Some}
+use Rattle.std.proofs.Common.{None, arith, get_or, is_some, length, length-take, nat_eq, refl, sym, ap, take}
 use Rattle.std.proofs.lemmas.Bool.{and_from, or_left, or_right}
 use Rattle.std.proofs.lemmas.Bool.Decides.{nat_tests}
 use Rattle.std.proofs.lemmas.List.{get_or-take}
@@ -11,13 +10,13 @@ use Rattle.memchr.specs.Find.{FindsNeedle, OccursAt}
 use Rattle.deck.specs.SubstringKeys.{has_substring}
 
 -- all bytes contain the empty text
-pub holds_nothing : (bytes : List ℕ) → has_substring bytes [] ≡ true
-holds_nothing [] = refl
-holds_nothing (b ∷ bytes) = refl
+pub empty_text_is_substring : (bytes : List ℕ) → has_substring bytes [] ≡ true
+empty_text_is_substring [] = refl
+empty_text_is_substring (b ∷ bytes) = refl
 
 -- a text at the front of the bytes occurs at place 0
-occurs_first : (bytes text : List ℕ) → starts_with nat_eq bytes text ≡ true → OccursAt bytes text 0
-occurs_first bytes text h =
+substring_at_front_occurs : (bytes text : List ℕ) → starts_with nat_eq bytes text ≡ true → OccursAt bytes text 0
+substring_at_front_occurs bytes text h =
     let same : text ≡ take (length text) bytes = (bytes_eq-Decides text (take (length text) bytes)).0 h in
     record {
       fits = omega (arith, ap length same, length-take (length text) bytes);
@@ -31,13 +30,13 @@ occurs_first bytes text h =
         ∙ sym (ap (λ xs. get_or xs j 0) same)
 
 -- a text that occurs at place 0 is at the front of the bytes
-starts_first : (bytes text : List ℕ) → OccursAt bytes text 0 → starts_with nat_eq bytes text ≡ true
-starts_first [] [] o = refl
-starts_first (b ∷ bytes) [] o = refl
-starts_first [] (t ∷ text) o = absurd (omega (arith, o.fits))
-starts_first (b ∷ bytes) (t ∷ text) o =
+substring_at_place_zero_starts : (bytes text : List ℕ) → OccursAt bytes text 0 → starts_with nat_eq bytes text ≡ true
+substring_at_place_zero_starts [] [] o = refl
+substring_at_place_zero_starts (b ∷ bytes) [] o = refl
+substring_at_place_zero_starts [] (t ∷ text) o = absurd (omega (arith, o.fits))
+substring_at_place_zero_starts (b ∷ bytes) (t ∷ text) o =
     and_from (nat_eq t b) (starts_with nat_eq bytes text) (first (o.reads 0 (omega arith)))
-    (starts_first bytes text (record {
+    (substring_at_place_zero_starts bytes text (record {
       fits = omega (arith, o.fits);
       reads = λ j l. later j (o.reads (suc j) (omega (arith, l)));
     }))
@@ -51,8 +50,9 @@ starts_first (b ∷ bytes) (t ∷ text) o =
         ap (λ i. get_or (b ∷ bytes) i 0) (sym at) ∙ e
 
 -- with one byte more in front, the text occurs one place later
-one_on : (b : ℕ) (bytes text : List ℕ) (k : ℕ) → OccursAt bytes text k → OccursAt (b ∷ bytes) text (suc k)
-one_on b bytes text k o = record { fits = omega (arith, o.fits); reads = λ j l. at j ∙ o.reads j l }
+substring_one_place_later : (b : ℕ) (bytes text : List ℕ) (k : ℕ) → OccursAt bytes text k
+    → OccursAt (b ∷ bytes) text (suc k)
+substring_one_place_later b bytes text k o = record { fits = omega (arith, o.fits); reads = λ j l. at j ∙ o.reads j l }
   where
     at : (j : ℕ) → get_or (b ∷ bytes) (suc k + j) 0 ≡ get_or bytes (k + j) 0
     at j =
@@ -60,8 +60,10 @@ one_on b bytes text k o = record { fits = omega (arith, o.fits); reads = λ j l.
         ap (λ i. get_or (b ∷ bytes) i 0) next
 
 -- with the first byte removed, the text occurs one place earlier
-one_back : (b : ℕ) (bytes text : List ℕ) (k : ℕ) → OccursAt (b ∷ bytes) text (suc k) → OccursAt bytes text k
-one_back b bytes text k o = record { fits = omega (arith, o.fits); reads = λ j l. at j ∙ o.reads j l }
+substring_one_place_earlier : (b : ℕ) (bytes text : List ℕ) (k : ℕ) → OccursAt (b ∷ bytes) text (suc k)
+    → OccursAt bytes text k
+substring_one_place_earlier b bytes text k o =
+    record { fits = omega (arith, o.fits); reads = λ j l. at j ∙ o.reads j l }
   where
     at : (j : ℕ) → get_or bytes (k + j) 0 ≡ get_or (b ∷ bytes) (suc k + j) 0
     at j =
@@ -69,10 +71,11 @@ one_back b bytes text k o = record { fits = omega (arith, o.fits); reads = λ j 
         sym (ap (λ i. get_or (b ∷ bytes) i 0) next)
 
 -- a text that the bytes contain occurs at some place
-place_held : (bytes text : List ℕ) → has_substring bytes text ≡ true → (k : ℕ) × OccursAt bytes text k
-place_held [] text h = (0, occurs_first [] text h)
-place_held (b ∷ bytes) text h =
-    by (starts_with nat_eq (b ∷ bytes) text) (occurs_first (b ∷ bytes) text) (place_held bytes text) h
+substring_has_place : (bytes text : List ℕ) → has_substring bytes text ≡ true → (k : ℕ) × OccursAt bytes text k
+substring_has_place [] text h = (0, substring_at_front_occurs [] text h)
+substring_has_place (b ∷ bytes) text h =
+    by (starts_with nat_eq (b ∷ bytes) text) (substring_at_front_occurs (b ∷ bytes) text)
+    (substring_has_place bytes text) h
   where
     by : (s : Bool) → (s ≡ true → OccursAt (b ∷ bytes) text 0)
         → (has_substring bytes text ≡ true → (k : ℕ) × OccursAt bytes text k) → (s || has_substring bytes text) ≡ true
@@ -80,26 +83,27 @@ place_held (b ∷ bytes) text h =
     by true first later g = (0, first refl)
     by false first later g =
         let found = later g in
-        (suc found.0, one_on b bytes text found.0 found.1)
+        (suc found.0, substring_one_place_later b bytes text found.0 found.1)
 
 -- the bytes contain a text that occurs at some place
-held_at : (bytes text : List ℕ) (k : ℕ) → OccursAt bytes text k → has_substring bytes text ≡ true
-held_at [] text zero o = starts_first [] text o
-held_at [] text (suc k) o = absurd (omega (arith, o.fits))
-held_at (b ∷ bytes) text zero o =
-    or_left (starts_with nat_eq (b ∷ bytes) text) (has_substring bytes text) (starts_first (b ∷ bytes) text o)
-held_at (b ∷ bytes) text (suc k) o =
+substring_by_place : (bytes text : List ℕ) (k : ℕ) → OccursAt bytes text k → has_substring bytes text ≡ true
+substring_by_place [] text zero o = substring_at_place_zero_starts [] text o
+substring_by_place [] text (suc k) o = absurd (omega (arith, o.fits))
+substring_by_place (b ∷ bytes) text zero o =
+    or_left (starts_with nat_eq (b ∷ bytes) text) (has_substring bytes text)
+    (substring_at_place_zero_starts (b ∷ bytes) text o)
+substring_by_place (b ∷ bytes) text (suc k) o =
     or_right (starts_with nat_eq (b ∷ bytes) text) (has_substring bytes text)
-    (held_at bytes text k (one_back b bytes text k o))
+    (substring_by_place bytes text k (substring_one_place_earlier b bytes text k o))
 
 -- a search finds a text exactly if the bytes contain it
-pub held_if_found : (bytes text : List ℕ) (place : Option ℕ) → FindsNeedle bytes text 0 place
+pub substring_is_held_if_found : (bytes text : List ℕ) (place : Option ℕ) → FindsNeedle bytes text 0 place
     → is_some place ≡ has_substring bytes text
-held_if_found bytes text None none = by (has_substring bytes text) refl
+substring_is_held_if_found bytes text None none = by (has_substring bytes text) refl
   where
     by : (b : Bool) → has_substring bytes text ≡ b → false ≡ b
     by false e = refl
     by true e =
-        let found = place_held bytes text e in
+        let found = substring_has_place bytes text e in
         absurd (none found.0 (omega arith) (omega (arith, found.1.fits)) found.1)
-held_if_found bytes text (Some k) found = sym (held_at bytes text k found.1)
+substring_is_held_if_found bytes text (Some k) found = sym (substring_by_place bytes text k found.1)

@@ -4,7 +4,7 @@ use Rattle.deck_lines.specs.declared.line.DeckLine.{DeckLine}
 use Rattle.deck.specs.declared.settings.Settings.{Settings}
 
 -- the lines and settings of a deck, and the notices of the last load or append
-pub record Contents : Type 0 where
+pub record DeckContents : Type 0 where
   pub lines : List DeckLine
   pub settings : Settings
   pub notices : List (List ℕ)

@@ -6,30 +6,30 @@ use Rattle.std.specs.List.Sorted.{IsStrictlySortedBy}
 use Rattle.def_entry.specs.declared.key.Key.{Key}
 use Rattle.def_entry.specs.declared.key.Kind.{Kind}
 use Rattle.def_entry.specs.KeyOrder.{key_cmp}
-use Rattle.def_entry.specs.SameKeys.{is_key_among, is_same_kind}
-use Rattle.deck.specs.Tables.{Table, is_present}
+use Rattle.def_entry.specs.SameKeys.{is_entry_key_among, is_same_key_kind}
+use Rattle.deck.specs.Tables.{EntryTable, is_entry_present}
 
 -- the list has exactly the keys that have an entry, in order, each once
-pub record AreKeys (table : Table) (keys : List Key) : Type 0 where
-  pub key_membership : (k : Key) → is_key_among keys k ≡ is_present table k
+pub record AreDeckTableKeys (table : EntryTable) (keys : List Key) : Type 0 where
+  pub key_membership : (k : Key) → is_entry_key_among keys k ≡ is_entry_present table k
   pub sorted_keys : IsStrictlySortedBy key_cmp keys
 
 -- the keys of the table, in the order of a finite map
-abbrev pub table_keys : Table → List Key
-table_keys table = map_of.keys (map_of.from_entries {R = key_cmp} table)
+abbrev pub deck_table_keys : EntryTable → List Key
+deck_table_keys table = map_of.keys (map_of.from_entries {R = key_cmp} table)
 
--- law: `table_keys` has exactly the keys that have an entry, in order, each once
-abbrev pub TableKeysLaw : Type 0
-TableKeysLaw = (table : Table) → AreKeys table (table_keys table)
+-- law: `deck_table_keys` has exactly the keys that have an entry, in order, each once
+abbrev pub DeckTableKeysLaw : Type 0
+DeckTableKeysLaw = (table : EntryTable) → AreDeckTableKeys table (deck_table_keys table)
 
--- law: `table_keys` is the only such list
-abbrev pub KeyListLaw : Type 0
-KeyListLaw = (table : Table) (keys : List Key) → AreKeys table keys → keys ≡ table_keys table
+-- law: `deck_table_keys` is the only such list
+abbrev pub DeckKeyListLaw : Type 0
+DeckKeyListLaw = (table : EntryTable) (keys : List Key) → AreDeckTableKeys table keys → keys ≡ deck_table_keys table
 
 -- the keys of a kind
-abbrev pub of_kind : Kind → List Key → List Key
-of_kind kind keys = filter (λ key. is_same_kind kind key.kind) keys
+abbrev pub deck_keys_of_kind : Kind → List Key → List Key
+deck_keys_of_kind kind keys = filter (λ key. is_same_key_kind kind key.kind) keys
 
 -- the number of keys of a kind that have an entry
-abbrev pub key_count : Table → Kind → ℕ
-key_count table kind = length (of_kind kind (table_keys table))
+abbrev pub deck_key_count : EntryTable → Kind → ℕ
+deck_key_count table kind = length (deck_keys_of_kind kind (deck_table_keys table))

@@ -5,36 +5,37 @@ use Rattle.def_entry.specs.declared.key.Key.{Key}
 use Rattle.def_entry.specs.Entries.{Entry}
 use Rattle.def_entry.specs.Keys.{key}
 use Rattle.deck_lines.specs.Names.{key_numbered}
-use Rattle.deck_lines.specs.Stores.{Store, definition_at}
+use Rattle.deck_lines.specs.Stores.{LineStoreView, store_definition_at}
 use Rattle.deck_lines.specs.declared.key_number.KeyNumber.{KeyNumber}
 use Rattle.deck_lines.specs.declared.line.DeckLine.{DeckLine}
-use Rattle.deck.specs.LastPlaces.{place_at}
+use Rattle.deck.specs.LastPlaces.{last_definition_place_at}
 use Rattle.deck.specs.declared.deck.keys.BorrowedKey.{BorrowedKey}
 use Rattle.deck.specs.declared.deck.placed_keys.PlacedKey.{PlacedKey}
 use Rattle.deck.specs.declared.places.last_places.LastPlaces.{LastPlaces}
 
 -- the key that the line at a place defines, if it defines one
-abbrev pub key_there : List DeckLine → ℕ → Option Key
-key_there lines place = option_map (λ d. d.0) (definition_at lines place)
+abbrev pub deck_key_at_place : List DeckLine → ℕ → Option Key
+deck_key_at_place lines place = option_map (λ d. d.0) (store_definition_at lines place)
 
 -- the keys that the lines at some places define
-abbrev pub keys_there : List DeckLine → (places : List ℕ) → List Key
-keys_there lines places = filter_map (key_there lines) places
+abbrev pub deck_keys_at_places : List DeckLine → (places : List ℕ) → List Key
+deck_keys_at_places lines places = filter_map (deck_key_at_place lines) places
 
 -- the view of a key with a borrowed name
-abbrev pub lent_key : BorrowedKey → Key
-lent_key k = key k.kind k.name.now
+abbrev pub borrowed_deck_key : BorrowedKey → Key
+borrowed_deck_key k = key k.kind k.name.now
 
 -- the view of a key with a place
-abbrev pub placed_key : PlacedKey → Key
-placed_key k = key k.kind k.name.now
+abbrev pub placed_deck_key : PlacedKey → Key
+placed_deck_key k = key k.kind k.name.now
 
 -- the line at the place of a key defines the key
-abbrev pub IsInPlace : List DeckLine → PlacedKey → Type 0
-IsInPlace lines k = key_there lines k.place ≡ Some (placed_key k)
+abbrev pub IsKeyInDefinitionPlace : List DeckLine → PlacedKey → Type 0
+IsKeyInDefinitionPlace lines k = deck_key_at_place lines k.place ≡ Some (placed_deck_key k)
 
 -- the line at the last place of each key defines that key
-abbrev pub ArePlaced : Store → LastPlaces → Type 0
-ArePlaced store last =
-    (n : KeyNumber) (place : ℕ) → place_at last n ≡ Some place → key_there store.lines place ≡ key_numbered store.names
+abbrev pub AreKeysInDefinitionPlaces : LineStoreView → LastPlaces → Type 0
+AreKeysInDefinitionPlaces store last =
+    (n : KeyNumber) (place : ℕ) → last_definition_place_at last n ≡ Some place
+    → deck_key_at_place store.lines place ≡ key_numbered store.names
     n

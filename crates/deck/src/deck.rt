@@ -4,8 +4,8 @@ ghost use Rattle.std.specs.Prelude.{◌≡◌, ◌≤◌, false, length, map, op
 ghost use Rattle.def_entry.specs.Keys as key_spec;
 ghost use Rattle.def_entry.specs.Views.{entry_view};
 ghost use Rattle.deck_lines.specs.ClosedBlocks.{AreBlocksClosed};
-ghost use Rattle.deck_lines.specs.Limits.{most_lines, pass_limit};
-ghost use Rattle.deck_lines.specs.Marks.{line_without_mark};
+ghost use Rattle.deck_lines.specs.Limits.{most_store_lines, pass_store_limit};
+ghost use Rattle.deck_lines.specs.Marks.{store_line_without_mark};
 ghost use Rattle.deck.specs.KeyLists as lists;
 ghost use Rattle.deck.specs.Tables as tables;
 
@@ -60,10 +60,10 @@ impl Drop for Deck {
 }
 
 impl Model for Deck {
-    ghost use Rattle.deck.specs.Decks.{Contents};
+    ghost use Rattle.deck.specs.Decks.{DeckContents};
     ghost use Rattle.deck.specs.CoveredLines.{AreDeckPlaces};
 
-    ghost Value = { Contents };
+    ghost Value = { DeckContents };
 
     ghost view = { λ d. record { lines = d.store.lines; settings = d.settings; notices = d.notices } };
 
@@ -80,7 +80,7 @@ impl Deck {
     ) -> Result<Deck, AllocError>
         requires { AreBlocksClosed store.lines }
         ensures is { IfOk result (λ d. d ≡ record { lines = store.lines; settings = settings; notices = notices }) }
-        ensures within { OnOk result (pass_limit store.lines ≡ false) }
+        ensures within { OnOk result (pass_store_limit store.lines ≡ false) }
     {
         let last = LastPlaces::under(alloc, &settings, &store)?;
         Ok(Deck {
@@ -95,7 +95,7 @@ impl Deck {
     /// Returns the entry of the last active line of a key, or `None` if no active line defines it. Allocates no memory.
     pub fn entry(&self, kind: Kind, name: &[u8]) -> Option<Entry<'_>>
         ensures { option_map entry_view result
-            ≡ tables.entry_at (tables.table self.now) (key_spec.key kind name.now) }
+            ≡ tables.entry_at (tables.table_of_deck self.now) (key_spec.key kind name.now) }
     {
         let Some(place) = self.place_of(kind, name) else {
             return None;
@@ -105,21 +105,21 @@ impl Deck {
 
     /// Returns the number of keys of this kind that have an entry.
     pub fn key_count(&self, kind: Kind) -> usize
-        ensures { result ≡ lists.key_count (tables.table self.now) kind }
+        ensures { result ≡ lists.deck_key_count (tables.table_of_deck self.now) kind }
     {
         self.last.count(kind)
     }
 
     /// Returns the place in `lines`, counted from 0, of the last active line of a key, or `None` if there is none.
     pub fn last_place(&self, key: &Key) -> Option<usize>
-        ensures { result ≡ tables.last_place self.now.settings self.now.lines key.now }
+        ensures { result ≡ tables.last_definition_place self.now.settings self.now.lines key.now }
     {
         self.place_of(key.kind, key.name.as_bytes())
     }
 
     /// A lemma: a deck has at most 100,000 lines.
     pub fn lines_few(&self)
-        ensures { length self.now.lines ≤ most_lines }
+        ensures { length self.now.lines ≤ most_store_lines }
     {
         self.store.lines_few();
     }
@@ -127,16 +127,16 @@ impl Deck {
     /// A lemma: the lines of a deck are closed and within the limits.
     pub fn lines_closed(&self)
         ensures closed { AreBlocksClosed self.now.lines }
-        ensures within { pass_limit self.now.lines ≡ false }
+        ensures within { pass_store_limit self.now.lines ≡ false }
     {
         let _ = self.lines();
     }
 
     /// Returns the lines without their marks.
     pub fn lines(&self) -> &Lines
-        ensures is { result.now ≡ map line_without_mark self.now.lines }
+        ensures is { result.now ≡ map store_line_without_mark self.now.lines }
         ensures closed { AreBlocksClosed self.now.lines }
-        ensures within { pass_limit self.now.lines ≡ false }
+        ensures within { pass_store_limit self.now.lines ≡ false }
     {
         self.store.lines()
     }
@@ -158,7 +158,7 @@ impl Deck {
     /// Returns the place in `lines`, counted from 0, of the last active line of a key, or `None` if there is none.
     /// Allocates no memory.
     pub fn place_of(&self, kind: Kind, name: &[u8]) -> Option<usize>
-        ensures { result ≡ tables.last_place self.now.settings self.now.lines (key_spec.key kind name.now) }
+        ensures { result ≡ tables.last_definition_place self.now.settings self.now.lines (key_spec.key kind name.now) }
     {
         let Some(number) = self.store.number_of(kind, name) else {
             return None;

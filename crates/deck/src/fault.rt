@@ -48,9 +48,9 @@ impl<T: Drop> From<AllocFailed<T>> for DeckFault {
 
 impl From<FetchFault> for DeckFault {
     ghost use Rattle.std.specs.Prelude.{◌≡◌};
-    ghost use Rattle.deck.specs.FileLoads.{load_error};
+    ghost use Rattle.deck.specs.FileLoads.{deck_load_error};
 
-    ghost from_gives = { λ fault made. made ≡ load_error fault };
+    ghost from_gives = { λ fault made. made ≡ deck_load_error fault };
 
     fn from(fault: FetchFault) -> Self {
         match fault {
@@ -64,9 +64,9 @@ impl From<FetchFault> for DeckFault {
 
 impl From<LoadFault> for DeckFault {
     ghost use Rattle.std.specs.Prelude.{◌≡◌};
-    ghost use Rattle.deck.specs.FileLoads.{fault_of_load};
+    ghost use Rattle.deck.specs.FileLoads.{deck_fault_of_load};
 
-    ghost from_gives = { λ fault made. made ≡ fault_of_load fault };
+    ghost from_gives = { λ fault made. made ≡ deck_fault_of_load fault };
 
     fn from(fault: LoadFault) -> Self {
         match fault {

@@ -1,13 +1,13 @@
 //! Laws of decks.
 
-ghost use Rattle.deck.specs.BlockExamples.{BlockExamplesLaw};
-ghost use Rattle.deck.specs.Changes.{ChangedLaw};
+ghost use Rattle.deck.specs.BlockExamples.{EnclosingExamplesLaw};
+ghost use Rattle.deck.specs.Changes.{KeysChangedByEditLaw};
 ghost use Rattle.deck.specs.EnclosingBlocks.{EnclosingLaw};
 ghost use Rattle.deck.specs.Examples.{DeckExamplesLaw};
-ghost use Rattle.deck.specs.FileLoads.{AppendedLinesLaw, KnownAppendLaw};
-ghost use Rattle.deck.specs.KeyLists.{KeyListLaw, TableKeysLaw};
+ghost use Rattle.deck.specs.FileLoads.{AppendedDeckLinesLaw, KnownDeckAppendLaw};
+ghost use Rattle.deck.specs.KeyLists.{DeckKeyListLaw, DeckTableKeysLaw};
 ghost use Rattle.deck.specs.SettingChanges.{SettingLaw};
-ghost use Rattle.deck.specs.Splices.{SpliceInverseLaw};
+ghost use Rattle.deck.specs.Splices.{DeckSpliceInverseLaw};
 ghost use Rattle.deck.specs.Tables.{DeckTableLaw};
 
 use deck_lines::{known_files_determine_loads, loads_keep_lines};
@@ -15,7 +15,7 @@ use def_entry::same_text_law;
 
 /// The inverse of a splice restores the deck.
 pub fn splices_are_undone()
-    ensures { SpliceInverseLaw }
+    ensures { DeckSpliceInverseLaw }
 {}
 
 /// A change of one setting is undone by restoring its previous value.
@@ -25,33 +25,33 @@ pub fn settings_are_undone()
 
 /// The keys that an edit changes are those whose entries have different texts before and after it.
 pub fn changes_are_computed()
-    ensures { ChangedLaw }
+    ensures { KeysChangedByEditLaw }
 {
     same_text_law();
 }
 
 /// If the files are known, they determine the outcome of an append, unless a fetch fails or memory runs out.
 pub fn known_files_determine_appends()
-    ensures { KnownAppendLaw }
+    ensures { KnownDeckAppendLaw }
 {
     known_files_determine_loads();
 }
 
 /// An append keeps the lines before it.
 pub fn appends_keep_lines()
-    ensures { AppendedLinesLaw }
+    ensures { AppendedDeckLinesLaw }
 {
     loads_keep_lines();
 }
 
 /// The keys of a table are exactly those that have an entry, in order, each once.
 pub fn table_keys_law()
-    ensures { TableKeysLaw }
+    ensures { DeckTableKeysLaw }
 {}
 
 /// There is only one list of exactly these keys in order.
 pub fn key_lists_are_one()
-    ensures { KeyListLaw }
+    ensures { DeckKeyListLaw }
 {}
 
 /// A table has at most as many entries as the deck has lines, and each entry is defined by a line.
@@ -72,5 +72,5 @@ pub fn enclosing_law()
 
 /// The examples with blocks hold: small decks have the active lines that were worked out by hand.
 pub fn block_examples_law()
-    ensures { BlockExamplesLaw }
+    ensures { EnclosingExamplesLaw }
 {}

@@ -22,9 +22,9 @@ impl NoFiles {
 
 impl Files for NoFiles {
     ghost use Rattle.std.specs.Prelude.{Some};
-    ghost use Rattle.units_io.specs.FileMap.{no_files};
+    ghost use Rattle.units_io.specs.FileMap.{no_files_in_map};
 
-    ghost files = { λ _. Some no_files };
+    ghost files = { λ _. Some no_files_in_map };
 
     ghost faults = { λ _. 0 };
 

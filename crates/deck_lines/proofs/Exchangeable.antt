@@ -9,26 +9,28 @@ use Rattle.std.proofs.lemmas.List.Sums.{sum_by-cons}
 use Rattle.std.proofs.lemmas.Option.{same_Some}
 use Rattle.std.specs.Option.{option_and_then}
 use Rattle.deck_lines.specs.ClosedBlocks.{AreBlocksClosed, blocks_after, blocks_past}
-use Rattle.deck_lines.specs.Exchangeable.{CanExchange}
-use Rattle.deck_lines.specs.Limits.{most_bytes, most_lines, pass_limit, text_len}
-use Rattle.deck_lines.specs.Origins.{exchanged_lines}
+use Rattle.deck_lines.specs.Exchangeable.{CanExchangeStoredLines}
+use Rattle.deck_lines.specs.Limits.{most_store_bytes, most_store_lines, pass_store_limit, stored_text_len}
+use Rattle.deck_lines.specs.Origins.{exchanged_store_lines}
 use Rattle.deck_lines.specs.declared.line.DeckLine.{DeckLine}
 use Rattle.deck_lines.specs.declared.line.Ending.{Ending}
 use Rattle.deck_lines.proofs.ExchangedItems.{exchanged_len}
-use Rattle.deck_lines.proofs.MarkReplacement.{few_bytes, few_lines}
+use Rattle.deck_lines.proofs.MarkReplacement.{store_limit_of_bytes, store_limit_of_lines}
 
 module _ (all xs rest : List DeckLine) (x : DeckLine) (e : xs ≡ x ∷ rest) where
-  texts : text_len xs ≡ length x.text + text_len rest
-  texts = ap text_len e ∙ sum_by-cons (λ (l : DeckLine). length l.text) x rest
+  texts : stored_text_len xs ≡ length x.text + stored_text_len rest
+  texts = ap stored_text_len e ∙ sum_by-cons (λ (l : DeckLine). length l.text) x rest
 
   -- if the room left by the lines before a line is too small for it, the lines pass the limit on bytes
-  pub too_long : (len room : ℕ) → len ≡ length x.text → text_len xs + most_bytes ≡ text_len all + room → room < len
-      → text_len all ≤ most_bytes → ⊥
+  pub too_long : (len room : ℕ) → len ≡ length x.text → stored_text_len xs + most_store_bytes ≡ stored_text_len all
+      + room → room < len
+      → stored_text_len all ≤ most_store_bytes → ⊥
   too_long len room f h l m = omega (arith, f, h, l, m, texts)
 
   -- otherwise the line reduces the room by the length of its text
-  pub texts_more : (len room : ℕ) → len ≡ length x.text → text_len xs + most_bytes ≡ text_len all + room → len ≤ room
-      → text_len rest + most_bytes ≡ text_len all + (room - len)
+  pub texts_more : (len room : ℕ) → len ≡ length x.text → stored_text_len xs + most_store_bytes ≡ stored_text_len all
+      + room → len ≤ room
+      → stored_text_len rest + most_store_bytes ≡ stored_text_len all + (room - len)
   texts_more len room f h l = omega (arith, f, h, l, texts)
 
   -- if `blocks_past` gives `None` for a line, the lines are not closed
@@ -46,59 +48,64 @@ module _ (all xs rest : List DeckLine) (x : DeckLine) (e : xs ≡ x ∷ rest) wh
       ∙ h
 
 -- if the reversed list of open blocks is empty, so is the list
-pub none_open : (items : List Ending) → Some (reverse items) ≡ Some [] → items ≡ []
-none_open [] e = refl
-none_open (i ∷ items) e =
+pub no_open_block_reversed : (items : List Ending) → Some (reverse items) ≡ Some [] → items ≡ []
+no_open_block_reversed [] e = refl
+no_open_block_reversed (i ∷ items) e =
     absurd (omega (arith, length-reverse (i ∷ items), ap length (same_Some (reverse (i ∷ items)) [] e)))
 
 -- at the end, no block is open exactly if the lines are closed and within the limit on bytes
-pub at_end : (all : List DeckLine) (items : List Ending) (count room : ℕ) (empty : Bool) → empty ≡ eqb count 0
+pub no_block_open_at_end : (all : List DeckLine) (items : List Ending) (count room : ℕ) (empty : Bool)
+    → empty ≡ eqb count 0
     → count ≡ length items →
-    blocks_after (reverse items) [] ≡ blocks_after [] all → text_len [] + most_bytes ≡ text_len all + room →
-    (empty ≡ true) ↔ (AreBlocksClosed all × (text_len all ≤ most_bytes))
-at_end all items count room empty e c h t = (
+    blocks_after (reverse items) [] ≡ blocks_after [] all → stored_text_len [] + most_store_bytes ≡ stored_text_len all
+    + room →
+    (empty ≡ true) ↔ (AreBlocksClosed all × (stored_text_len all ≤ most_store_bytes))
+no_block_open_at_end all items count room empty e c h t = (
   λ y. (
     sym h ∙ ap (λ bs. Some (reverse bs)) (nil_from_length items (sym c ∙ eqb-true count 0 (sym e ∙ y))),
     omega
         (arith, t),
   ),
-  λ r. e ∙ eq-eqb count 0 (c ∙ ap length (none_open items (h ∙ r.0))),
+  λ r. e ∙ eq-eqb count 0 (c ∙ ap length (no_open_block_reversed items (h ∙ r.0))),
 )
 
 -- lines are within the limits if their number and the length of their texts are
-pub few_and_small : (lines : List DeckLine) → length lines ≤ most_lines → text_len lines ≤ most_bytes
-    → pass_limit lines ≡ false
-unfolding pass_limit
-few_and_small lines few small = grind (arith, nat_tests, few, small)
+pub store_limit_by_count_and_bytes : (lines : List DeckLine) → length lines ≤ most_store_lines
+    → stored_text_len lines ≤ most_store_bytes
+    → pass_store_limit lines ≡ false
+unfolding pass_store_limit
+store_limit_by_count_and_bytes lines few small = grind (arith, nat_tests, few, small)
 
 module _ (at cut : ℕ) (put lines : List DeckLine) where
-  pub exchangeable : (can : Bool) → at + cut ≤ length lines → length (exchanged_lines at cut put lines) ≤ most_lines →
-      (can ≡ true) ↔ (AreBlocksClosed (exchanged_lines at cut put lines)
-      × (text_len (exchanged_lines at cut put lines) ≤ most_bytes)) → (can ≡ true) ↔ CanExchange at cut put lines
+  pub exchangeable : (can : Bool) → at + cut ≤ length lines → length (exchanged_store_lines at cut put lines) ≤
+      most_store_lines →
+      (can ≡ true) ↔ (AreBlocksClosed (exchanged_store_lines at cut put lines)
+      × (stored_text_len (exchanged_store_lines at cut put lines) ≤ most_store_bytes))
+      → (can ≡ true) ↔ CanExchangeStoredLines at cut put lines
   exchangeable can places few is = (
     λ y. record {
       range_within = places;
       blocks_closed_after = (is.0 y).0;
       within_limit =
-          few_and_small (exchanged_lines at cut put lines) few (is.0 y).1;
+          store_limit_by_count_and_bytes (exchanged_store_lines at cut put lines) few (is.0 y).1;
     },
-    λ c. is.1 (c.blocks_closed_after, few_bytes (exchanged_lines at cut put lines) c.within_limit),
+    λ c. is.1 (c.blocks_closed_after, store_limit_of_bytes (exchanged_store_lines at cut put lines) c.within_limit),
   )
 
   -- if the lines to be replaced do not all exist, the lines cannot be exchanged
-  pub not_there : (length lines < at + cut) → (false ≡ true) ↔ CanExchange at cut put lines
+  pub not_there : (length lines < at + cut) → (false ≡ true) ↔ CanExchangeStoredLines at cut put lines
   not_there past = (λ t. absurd (false≢true t), λ c. absurd (omega (arith, past, c.range_within)))
 
   -- if the result has too many lines, the lines cannot be exchanged
-  pub too_many : at + cut ≤ length lines → most_lines < length lines - cut + length put
-      → (false ≡ true) ↔ CanExchange at cut put lines
+  pub too_many : at + cut ≤ length lines → most_store_lines < length lines - cut + length put
+      → (false ≡ true) ↔ CanExchangeStoredLines at cut put lines
   too_many places many = (
     λ t. absurd (false≢true t),
     λ c. absurd (omega (
       arith,
       many,
       exchanged_len lines put at cut places,
-      few_lines (exchanged_lines at cut put lines) c.within_limit,
+      store_limit_of_lines (exchanged_store_lines at cut put lines) c.within_limit,
     )),
   )
 

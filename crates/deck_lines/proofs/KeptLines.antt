@@ -7,13 +7,13 @@ use Rattle.std.specs.Prelude.{ℕ}
 use Rattle.units_io.specs.declared.files.FetchFault.{FetchFault}
 use Rattle.units_io.specs.declared.files.FetchFault.TheVariants as fetch
 use Rattle.def_lines.specs.declared.line.Line.{Line}
-use Rattle.deck_lines.specs.Excerpts.{Excerpt, in_turn, include_excerpt, line_without_notice}
-use Rattle.deck_lines.specs.Includes.{most_depth, not_read}
-use Rattle.deck_lines.specs.Limits.{pass_limit}
+use Rattle.deck_lines.specs.Excerpts.{Excerpt, excerpts_in_turn, include_excerpt, line_without_notice}
+use Rattle.deck_lines.specs.Includes.{include_not_read, most_include_depth}
+use Rattle.deck_lines.specs.Limits.{pass_store_limit}
 use Rattle.deck_lines.specs.LineLoads.{LoadPart, load_of_answer, load_of_excerpt}
-use Rattle.deck_lines.specs.LoadLaws.{KeptLinesLaw}
-use Rattle.deck_lines.specs.Marks.{plain_line}
-use Rattle.deck_lines.specs.Transcripts.{Asks, Fails, Fetch, Load, Yields, load_after_fetch, loads_in_turn}
+use Rattle.deck_lines.specs.LoadLaws.{LoadKeepsLinesLaw}
+use Rattle.deck_lines.specs.Marks.{plain_store_line}
+use Rattle.deck_lines.specs.Transcripts.{Asks, Fails, Load, TranscriptFetch, Yields, load_after_fetch, loads_in_turn}
 use Rattle.deck_lines.specs.declared.draft.LoadFault.{LoadFault}
 use Rattle.deck_lines.specs.declared.draft.LoadFault.TheVariants.{DeckFull}
 use Rattle.deck_lines.specs.declared.line.DeckLine.{DeckLine}
@@ -26,18 +26,19 @@ BeginsWith lines (Fails fault rest) = ⊤
 BeginsWith lines (Asks name rest) = ⊤
 
 abbrev KeepsLines : LoadPart → Type 0
-KeepsLines part = (before : Excerpt) (fetches : List Fetch) → BeginsWith before.lines (part before fetches)
+KeepsLines part = (before : Excerpt) (fetches : List TranscriptFetch) → BeginsWith before.lines (part before fetches)
 
-excerpt_keeps : (excerpt : Excerpt) → KeepsLines (load_of_excerpt excerpt)
-excerpt_keeps excerpt before fetches = by (pass_limit (before.lines ++ excerpt.lines))
+excerpt_load_keeps_lines : (excerpt : Excerpt) → KeepsLines (load_of_excerpt excerpt)
+excerpt_load_keeps_lines excerpt before fetches = by (pass_store_limit (before.lines ++ excerpt.lines))
   where
     by : (b : Bool) → BeginsWith before.lines
-        (cond b (Fails DeckFull fetches) (Yields (in_turn before excerpt) fetches))
+        (cond b (Fails DeckFull fetches) (Yields (excerpts_in_turn before excerpt) fetches))
     by true = tt
     by false = (excerpt.lines, refl)
 
-both_keep : (first second : LoadPart) → KeepsLines first → KeepsLines second → KeepsLines (both_parts first second)
-both_keep first second h g before fetches = by (first before fetches) (h before fetches)
+load_parts_keep_lines : (first second : LoadPart) → KeepsLines first → KeepsLines second
+    → KeepsLines (both_parts first second)
+load_parts_keep_lines first second h g before fetches = by (first before fetches) (h before fetches)
   where
     after : (now : Excerpt) (more : List DeckLine) (load : Load LoadFault) → now.lines ≡ before.lines ++ more
         → BeginsWith now.lines load → BeginsWith before.lines load
@@ -55,14 +56,17 @@ module _ (load : List ℕ → LoadPart) (includer name : List ℕ) (line : Line)
     (each : (bytes : List ℕ) → KeepsLines (load bytes)) where
   answer_keeps : (answer : Result (List ℕ) FetchFault) → KeepsLines (load_of_answer load includer name line answer)
   answer_keeps (Ok bytes) =
-      both_keep (load_of_excerpt (line_without_notice line)) (load bytes) (excerpt_keeps (line_without_notice line))
+      load_parts_keep_lines (load_of_excerpt (line_without_notice line)) (load bytes)
+      (excerpt_load_keeps_lines (line_without_notice line))
       (each bytes)
   answer_keeps (Err fetch.Failed) = λ before fetches. tt
   answer_keeps (Err fetch.OutOfMemory) = λ before fetches. tt
-  answer_keeps (Err fetch.Absent) = excerpt_keeps (include_excerpt includer line (not_read name fetch.Absent))
-  answer_keeps (Err fetch.TooLong) = excerpt_keeps (include_excerpt includer line (not_read name fetch.TooLong))
+  answer_keeps (Err fetch.Absent) =
+      excerpt_load_keeps_lines (include_excerpt includer line (include_not_read name fetch.Absent))
+  answer_keeps (Err fetch.TooLong) =
+      excerpt_load_keeps_lines (include_excerpt includer line (include_not_read name fetch.TooLong))
 
-  fetch_keeps : (before : Excerpt) (fetches : List Fetch)
+  fetch_keeps : (before : Excerpt) (fetches : List TranscriptFetch)
       → BeginsWith before.lines
       (load_after_fetch name (λ answer. load_of_answer load includer name line answer before) fetches)
   fetch_keeps before [] = tt
@@ -74,7 +78,7 @@ module _ (load : List ℕ → LoadPart) (includer name : List ℕ) (line : Line)
       by false = tt
 
   include_keeps : KeepsLines (include_part load includer name line)
-  include_keeps before fetches = by (pass_limit (before.lines ++ plain_line line.number line.text ∷ []))
+  include_keeps before fetches = by (pass_store_limit (before.lines ++ plain_store_line line.number line.text ∷ []))
     where
       by : (b : Bool) → BeginsWith before.lines (cond b (Fails DeckFull fetches)
           (load_after_fetch name (λ answer. load_of_answer load includer name line answer before) fetches))
@@ -82,8 +86,13 @@ module _ (load : List ℕ → LoadPart) (includer name : List ℕ) (line : Line)
       by false = fetch_keeps before fetches
 
 -- the law of the lines before a load
-pub kept_lines_law : KeptLinesLaw
-kept_lines_law name bytes before now transcript rest e =
+pub load_keeps_lines_law : LoadKeepsLinesLaw
+load_keeps_lines_law name bytes before now transcript rest e =
     subst (BeginsWith before.lines) e
-    (of_above KeepsLines (record { of_excerpt = excerpt_keeps; of_both = both_keep; of_include = include_keeps })
-    most_depth name bytes before transcript)
+    (of_above KeepsLines (record {
+      of_excerpt = excerpt_load_keeps_lines;
+      of_both = load_parts_keep_lines;
+      of_include =
+          include_keeps;
+    })
+    most_include_depth name bytes before transcript)

@@ -3,34 +3,36 @@ use Rattle.std.proofs.Common.{◌≡◌, ◌++◌, ◌∷◌, ◌+◌, ◌-◌, 
 use Rattle.std.proofs.Common.{refl, ap, ◌∙◌, arith, length-append, length-drop, length-take, Some, slice_get}
 use Rattle.std.proofs.lemmas.List.Sums.{sum_by-append}
 use Rattle.def_lines.specs.declared.line.Line.{Line}
-use Rattle.deck_lines.specs.Limits.{bytes_in, most_bytes, most_lines}
-use Rattle.deck_lines.specs.Marks.{with_marks}
-use Rattle.deck_lines.specs.Within.{IsWithin}
-use Rattle.deck_lines.proofs.MarkLimits.{marks_append, marks_bytes, marks_drop, marks_take}
+use Rattle.deck_lines.specs.Limits.{most_store_bytes, most_store_lines, stored_bytes_in}
+use Rattle.deck_lines.specs.Marks.{store_lines_with_marks}
+use Rattle.deck_lines.specs.Within.{IsWithinStoreLimit}
+use Rattle.deck_lines.proofs.MarkLimits.{store_marks_append, store_marks_bytes, store_marks_drop, store_marks_take}
 use Rattle.general_lemmas.proofs.Parts.{parts_of}
 
 -- the range of length 1 at a place has only the item there
-pub one_at : {A : Type 0} (place : ℕ) (xs : List A) (x : A) → slice_get xs place ≡ Some x
+pub one_store_line_at_place : {A : Type 0} (place : ℕ) (xs : List A) (x : A) → slice_get xs place ≡ Some x
     → take 1 (drop place xs) ≡ x ∷ []
-one_at place [] x e = absurd (cc)
-one_at zero (y ∷ ys) x e =
+one_store_line_at_place place [] x e = absurd (cc)
+one_store_line_at_place zero (y ∷ ys) x e =
     let same : y ≡ x = cc in
     ap (λ t. t ∷ []) same
-one_at (suc n) (y ∷ ys) x e = one_at n ys x e
+one_store_line_at_place (suc n) (y ∷ ys) x e = one_store_line_at_place n ys x e
 
 module _ (ls put : List Line) (ms more : List Bool) (at cut : ℕ) (each : length ms ≡ length ls)
     (with : length more ≡ length put) where
   -- marking lines after a replacement is the same as replacing marked lines
-  pub marks_exchange : with_marks (take at ls ++ (put ++ drop (at + cut) ls))
+  pub marks_exchange : store_lines_with_marks (take at ls ++ (put ++ drop (at + cut) ls))
       (take at ms ++ (more ++ drop (at + cut) ms))
-      ≡ take at (with_marks ls ms) ++ (with_marks put more ++ drop (at + cut) (with_marks ls ms))
+      ≡ take at (store_lines_with_marks ls ms)
+      ++ (store_lines_with_marks put more ++ drop (at + cut) (store_lines_with_marks ls ms))
   marks_exchange =
-      marks_append (take at ls) (put ++ drop (at + cut) ls) (take at ms) (more ++ drop (at + cut) ms)
+      store_marks_append (take at ls) (put ++ drop (at + cut) ls) (take at ms) (more ++ drop (at + cut) ms)
       (omega (arith, each, length-take at ls, length-take at ms))
-      ∙ ap (λ t. t ++ with_marks (put ++ drop (at + cut) ls) (more ++ drop (at + cut) ms)) (marks_take at ls ms)
-      ∙ ap (λ t. take at (with_marks ls ms) ++ t)
-      (marks_append put (drop (at + cut) ls) more (drop (at + cut) ms) with
-      ∙ ap (λ t. with_marks put more ++ t) (marks_drop (at + cut) ls ms each))
+      ∙ ap (λ t. t ++ store_lines_with_marks (put ++ drop (at + cut) ls) (more ++ drop (at + cut) ms))
+      (store_marks_take at ls ms)
+      ∙ ap (λ t. take at (store_lines_with_marks ls ms) ++ t)
+      (store_marks_append put (drop (at + cut) ls) more (drop (at + cut) ms) with
+      ∙ ap (λ t. store_lines_with_marks put more ++ t) (store_marks_drop (at + cut) ls ms each))
 
   pub long : length (take at ms ++ (more ++ drop (at + cut) ms)) ≡ length (take at ls ++ (put ++ drop (at + cut) ls))
   long = omega (
@@ -48,12 +50,12 @@ module _ (ls put : List Line) (ms more : List Bool) (at cut : ℕ) (each : lengt
   )
 
   bytes_after : at + cut ≤ length ls
-      → bytes_in (take at ls ++ (put ++ drop (at + cut) ls)) + bytes_in (take cut (drop at ls))
-      ≡ bytes_in ls + bytes_in put
+      → stored_bytes_in (take at ls ++ (put ++ drop (at + cut) ls)) + stored_bytes_in (take cut (drop at ls))
+      ≡ stored_bytes_in ls + stored_bytes_in put
   bytes_after h =
       omega (
         arith,
-        ap bytes_in (parts_of at cut ls h),
+        ap stored_bytes_in (parts_of at cut ls h),
         sum_by-append (λ (l : Line). length l.text) (take at ls) (put ++ drop (at + cut) ls),
         sum_by-append (λ (l : Line). length l.text) put (drop (at + cut) ls),
         sum_by-append (λ (l : Line). length l.text) (take at ls) (take cut (drop at ls) ++ drop (at + cut) ls),
@@ -61,10 +63,10 @@ module _ (ls put : List Line) (ms more : List Bool) (at cut : ℕ) (each : lengt
       )
 
   -- the lines after a replacement are within the limits if their number and their bytes are
-  pub within_exchange : (bytes less : ℕ) → IsWithin ls ms bytes → at + cut ≤ length ls
-      → less + bytes_in (take cut (drop at ls)) ≡ bytes + bytes_in put →
-      length (take at ls ++ (put ++ drop (at + cut) ls)) ≤ most_lines → less ≤ most_bytes →
-      IsWithin (take at ls ++ (put ++ drop (at + cut) ls)) (take at ms ++ (more ++ drop (at + cut) ms)) less
+  pub within_exchange : (bytes less : ℕ) → IsWithinStoreLimit ls ms bytes → at + cut ≤ length ls
+      → less + stored_bytes_in (take cut (drop at ls)) ≡ bytes + stored_bytes_in put →
+      length (take at ls ++ (put ++ drop (at + cut) ls)) ≤ most_store_lines → less ≤ most_store_bytes →
+      IsWithinStoreLimit (take at ls ++ (put ++ drop (at + cut) ls)) (take at ms ++ (more ++ drop (at + cut) ms)) less
   within_exchange bytes less kept h e few small = record {
     mark_count = long;
     byte_total = omega (
@@ -72,18 +74,18 @@ module _ (ls put : List Line) (ms more : List Bool) (at cut : ℕ) (each : lengt
       e,
       kept.byte_total,
       bytes_after h,
-      marks_bytes ls ms each,
-      marks_bytes (take at ls ++ (put ++ drop (at + cut) ls)) (take at ms ++ (more ++ drop (at + cut) ms)) long,
+      store_marks_bytes ls ms each,
+      store_marks_bytes (take at ls ++ (put ++ drop (at + cut) ls)) (take at ms ++ (more ++ drop (at + cut) ms)) long,
     );
     line_bound = few;
     small = small;
   }
 
 -- removing the line at a place
-module _ (ls : List Line) (ms : List Bool) (bytes place : ℕ) (kept : IsWithin ls ms bytes) (line : Line)
+module _ (ls : List Line) (ms : List Bool) (bytes place : ℕ) (kept : IsWithinStoreLimit ls ms bytes) (line : Line)
     (at : slice_get ls place ≡ Some line) (within : place < length ls) where
-  one_byte : bytes_in (take 1 (drop place ls)) ≡ length line.text
-  one_byte = ap bytes_in (one_at place ls line at) ∙ zero_plus (length line.text)
+  one_byte : stored_bytes_in (take 1 (drop place ls)) ≡ length line.text
+  one_byte = ap stored_bytes_in (one_store_line_at_place place ls line at) ∙ zero_plus (length line.text)
     where
       zero_plus : (n : ℕ) → 0 + n ≡ n
       zero_plus n = omega arith
@@ -93,12 +95,12 @@ module _ (ls : List Line) (ms : List Bool) (bytes place : ℕ) (kept : IsWithin 
     arith,
     one_byte,
     kept.byte_total,
-    marks_bytes ls ms kept.mark_count,
+    store_marks_bytes ls ms kept.mark_count,
     bytes_after ls [] ms [] place 1 kept.mark_count refl (omega (arith, within)),
   )
 
   pub within_without : (less : ℕ) → less + length line.text ≡ bytes
-      → IsWithin (take place ls ++ drop (place + 1) ls) (take place ms ++ drop (place + 1) ms) less
+      → IsWithinStoreLimit (take place ls ++ drop (place + 1) ls) (take place ms ++ drop (place + 1) ms) less
   within_without less e =
       within_exchange ls [] ms [] place 1 kept.mark_count refl bytes less kept (omega (arith, within))
       (omega (arith, e, one_byte))
@@ -114,5 +116,5 @@ module _ (ls : List Line) (ms : List Bool) (bytes place : ℕ) (kept : IsWithin 
   -- the lines without the line at a place are within the limits, given both lists and the length of the text
   pub within_removed : (n : ℕ) (ls' : List Line) (ms' : List Bool) → n ≡ length line.text
       → ls' ≡ take place ls ++ drop (place + 1) ls → ms' ≡ take place ms ++ drop (place + 1) ms
-      → IsWithin ls' ms' (bytes - n)
+      → IsWithinStoreLimit ls' ms' (bytes - n)
   within_removed n ls' ms' e p q = rw (p, q) (within_without (bytes - n) (omega (arith, e, bytes_at)))

@@ -2,16 +2,18 @@
 use Rattle.std.proofs.Common.{◌≡◌, ◌++◌, ◌∷◌, [], List, refl, sym, ap, ◌∙◌, append_assoc}
 use Rattle.std.proofs.lemmas.List.{append-nil}
 use Rattle.deck_lines.specs.LoadLaws.{LoggedFetchesLaw, is_logged_fetch}
-use Rattle.deck_lines.specs.Transcripts.{AreFetchesBetween, Fetch}
+use Rattle.deck_lines.specs.Transcripts.{AreFetchesBetween, TranscriptFetch}
 
 -- the list grows by the fetches between two states
-grown : (from to fetches : List Fetch) → AreFetchesBetween is_logged_fetch from to fetches → to ≡ from ++ fetches
+grown : (from to fetches : List TranscriptFetch) → AreFetchesBetween is_logged_fetch from to fetches
+    → to ≡ from ++ fetches
 grown from to [] e = e ∙ sym (append-nil from)
 grown from to (f ∷ fetches) h =
     grown h.0 to fetches h.2 ∙ ap (λ fs. fs ++ fetches) h.1 ∙ append_assoc from (f ∷ []) fetches
 
 -- the fetches by which the list grows are those between the two states
-between : (from to fetches : List Fetch) → to ≡ from ++ fetches → AreFetchesBetween is_logged_fetch from to fetches
+between : (from to fetches : List TranscriptFetch) → to ≡ from ++ fetches
+    → AreFetchesBetween is_logged_fetch from to fetches
 between from to [] e = e ∙ append-nil from
 between from to (f ∷ fetches) e = (
   from ++ f ∷ [],

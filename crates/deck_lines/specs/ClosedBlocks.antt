@@ -2,9 +2,9 @@
 use Rattle.std.specs.Prelude.{◌≡◌, ℕ, List, [], ◌∷◌, if◌then◌else◌, Option, Some, None}
 use Rattle.std.specs.Option.{option_and_then}
 use Rattle.units_io.specs.FileMap.{FileMap}
-use Rattle.def_lines.specs.Kinds.{kind_of}
-use Rattle.deck_lines.specs.Blocks.{role_of, same_ending}
-use Rattle.deck_lines.specs.Includes.{deck_of_file}
+use Rattle.def_lines.specs.Kinds.{kind_of_line}
+use Rattle.deck_lines.specs.Blocks.{block_role_of_kind, same_block_ending}
+use Rattle.deck_lines.specs.Includes.{excerpt_of_deck_file}
 use Rattle.deck_lines.specs.declared.line.DeckLine.{DeckLine}
 use Rattle.deck_lines.specs.declared.line.Ending.{Ending}
 use Rattle.deck_lines.specs.declared.line.Role.{Role}
@@ -13,7 +13,7 @@ use Rattle.deck_lines.specs.declared.line.Role.TheVariants.{Opens, Closes, Insid
 -- the open blocks without the innermost one, which comes first, or `None` if it has another ending or no block is open
 abbrev pub blocks_without : Ending → List Ending → Option (List Ending)
 blocks_without ending [] = None
-blocks_without ending (block ∷ blocks) = if same_ending ending block then Some blocks else None
+blocks_without ending (block ∷ blocks) = if same_block_ending ending block then Some blocks else None
 
 -- the open blocks after a line of this role
 abbrev pub blocks_past_role : List Ending → Role → Option (List Ending)
@@ -23,7 +23,8 @@ blocks_past_role blocks Inside = Some blocks
 
 -- the open blocks after a line; a line with the mark opens and closes no block
 unfoldable pub blocks_past : List Ending → DeckLine → Option (List Ending)
-blocks_past blocks line = if line.mark then Some blocks else blocks_past_role blocks (role_of (kind_of line.text))
+blocks_past blocks line = if line.mark then Some blocks else blocks_past_role blocks
+    (block_role_of_kind (kind_of_line line.text))
 
 -- the open blocks after some lines, or `None` if an end line does not close the innermost block
 abbrev pub blocks_after : List Ending → List DeckLine → Option (List Ending)
@@ -36,4 +37,5 @@ AreBlocksClosed lines = blocks_after [] lines ≡ Some []
 
 -- law: the deck of a file is closed
 abbrev pub ClosedBlocksLaw : Type 0
-ClosedBlocksLaw = (files : FileMap) (name bytes : List ℕ) → AreBlocksClosed (deck_of_file files name bytes).lines
+ClosedBlocksLaw = (files : FileMap) (name bytes : List ℕ)
+    → AreBlocksClosed (excerpt_of_deck_file files name bytes).lines

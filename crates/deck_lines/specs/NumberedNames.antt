@@ -2,11 +2,11 @@
 use Rattle.std.specs.Prelude.{◌≤◌, ℕ, List, [], ◌∷◌, length, ⊤}
 
 -- the names, and the number of names that can be added without an allocation
-pub record NumberedNames : Type 0 where
+pub record NumberedKeyNames : Type 0 where
   pub names : List (List ℕ)
   pub spare_names : ℕ
 
 -- no name is longer than `most` bytes
-abbrev pub AreUpTo : ℕ → List (List ℕ) → Type 0
-AreUpTo most [] = ⊤
-AreUpTo most (name ∷ names) = (length name ≤ most) × AreUpTo most names
+abbrev pub AreKeyNamesUpTo : ℕ → List (List ℕ) → Type 0
+AreKeyNamesUpTo most [] = ⊤
+AreKeyNamesUpTo most (name ∷ names) = (length name ≤ most) × AreKeyNamesUpTo most names

@@ -4,9 +4,9 @@ ghost use Rattle.std.specs.Prelude.{◌≡◌, ◌++◌, ◌∷◌, [], OnOk, On
 ghost use Rattle.def_entry.specs.LineViews.{seen_entry};
 ghost use Rattle.deck_lines.specs.Excerpts.{line_with_notice, line_without_notice, notice};
 ghost use Rattle.deck_lines.specs.Loads.{IsExcerptPut};
-ghost use Rattle.deck_lines.specs.Marks.{plain_line};
-ghost use Rattle.deck_lines.specs.Readings.{entry_in};
-ghost use Rattle.deck_lines.specs.Stores.{no_lines};
+ghost use Rattle.deck_lines.specs.Marks.{plain_store_line};
+ghost use Rattle.deck_lines.specs.Readings.{entry_in_store_line};
+ghost use Rattle.deck_lines.specs.Stores.{store_without_lines};
 
 use crate::store::LineStore;
 use def_entry::{Key, What};
@@ -60,7 +60,7 @@ pub struct Draft {
 impl Draft {
     /// Returns a draft without lines and notices. `seed` is the hash seed of its tables of names.
     pub fn new(alloc: Global, seed: HashSeed) -> Draft
-        ensures { result ≡ record { store = no_lines; notices = [] } }
+        ensures { result ≡ record { store = store_without_lines; notices = [] } }
     {
         Draft {
             store: LineStore::new(alloc, seed),
@@ -76,7 +76,8 @@ impl Draft {
         line: Line,
         definition: Option<(Key, What)>,
     ) -> Result<(), LoadFault>
-        requires { option_map (seen_entry line.text) definition ≡ entry_in (plain_line line.number line.text) }
+        requires { option_map (seen_entry line.text) definition
+            ≡ entry_in_store_line (plain_store_line line.number line.text) }
         ensures put { IsExcerptPut self.old (line_without_notice line) result self.new }
         ensures err { OnErr result (self.new.store ≡ self.old.store) }
     {
@@ -89,7 +90,7 @@ impl Draft {
 
     /// Appends a line of `file` that has no effect, and a notice with `text`. Returns `DeckFull` if the line would pass
     /// a limit, and `OutOfMemory` if an allocation fails.
-    #[tactic(auto, unfolding(crate::specs::Readings::entry_in))]
+    #[tactic(auto, unfolding(crate::specs::Readings::entry_in_store_line))]
     pub(crate) fn refuse_line(
         &mut self,
         alloc: Global,

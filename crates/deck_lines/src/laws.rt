@@ -1,8 +1,8 @@
 //! Laws of decks. The calls do nothing: their contracts are the laws.
 
 ghost use Rattle.deck_lines.specs.ClosedBlocks.{ClosedBlocksLaw};
-ghost use Rattle.deck_lines.specs.Examples.{LineExamplesLaw};
-ghost use Rattle.deck_lines.specs.LoadLaws.{AskLaw, FailureLaw, KeptLinesLaw, KnownLoadLaw, LastFetchLaw};
+ghost use Rattle.deck_lines.specs.Examples.{ExcerptExamplesLaw};
+ghost use Rattle.deck_lines.specs.LoadLaws.{KnownLoadLaw, LastFetchLaw, LoadAskLaw, LoadFailureLaw, LoadKeepsLinesLaw};
 ghost use Rattle.deck_lines.specs.LoadLaws.{LoggedFetchesLaw};
 ghost use Rattle.deck_lines.specs.TranscriptExamples.{TranscriptExamplesLaw};
 
@@ -13,8 +13,8 @@ pub fn decks_are_closed()
 
 /// A load ends with the first fetch that fails, which is that of the file that it asks for.
 pub fn failed_fetches_end_loads()
-    ensures failed { FailureLaw }
-    ensures asked { AskLaw }
+    ensures failed { LoadFailureLaw }
+    ensures asked { LoadAskLaw }
     ensures last { LastFetchLaw }
 {}
 
@@ -26,18 +26,18 @@ pub fn known_files_determine_loads()
 
 /// A load keeps the lines before it.
 pub fn loads_keep_lines()
-    ensures { KeptLinesLaw }
+    ensures { LoadKeepsLinesLaw }
 {}
 
-/// If the state of the files is the list of all fetches that were made, the fetches between two states are those by which
-/// the list grows.
+/// If the state of the files is the list of all fetches that were made, the fetches between two states are those by
+/// which the list grows.
 pub fn logged_fetches_law()
     ensures { LoggedFetchesLaw }
 {}
 
 /// The examples hold: a few texts have the decks that were worked out by hand.
 pub fn examples_law()
-    ensures { LineExamplesLaw }
+    ensures { ExcerptExamplesLaw }
 {}
 
 /// The examples with transcripts hold: loads have the outcomes that were worked out by hand.

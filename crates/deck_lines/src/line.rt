@@ -53,7 +53,7 @@ pub enum Ending {
 
 /// Reports whether two endings are equal.
 pub(crate) fn same_ending(ending: Ending, other: Ending) -> bool
-    ensures { result ≡ spec.same_ending ending other }
+    ensures { result ≡ spec.same_block_ending ending other }
 {
     matches!(
         (ending, other),

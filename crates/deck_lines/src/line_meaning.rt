@@ -1,11 +1,11 @@
 //! The meaning of a line.
 
 ghost use Rattle.std.specs.Prelude.{◌≡◌, ℕ, List, IfOk, true};
-ghost use Rattle.def_lines.specs.Kinds.{kind_of};
+ghost use Rattle.def_lines.specs.Kinds.{kind_of_line};
 ghost use Rattle.def_entry.specs.EntryReading.{entry_of, has_entry};
-ghost use Rattle.deck_lines.specs.Marks.{plain_line};
+ghost use Rattle.deck_lines.specs.Marks.{plain_store_line};
 ghost use Rattle.deck_lines.specs.Readings as spec;
-ghost use Rattle.deck_lines.specs.Views.{seen_reading};
+ghost use Rattle.deck_lines.specs.Views.{seen_store_line_reading};
 
 use crate::line::{Ending, Role};
 use def_entry::{EntryFault, Key, What, entry_fault_text, entry_memory_law, read_entry};
@@ -26,11 +26,13 @@ pub enum Reading<'a> {
 }
 
 /// Returns the meaning of a line. The only error is running out of memory.
-#[tactic(auto, unfolding(crate::specs::Readings::reading_of, crate::specs::Readings::entry_in))]
+#[tactic(auto, unfolding(crate::specs::Readings::store_line_reading_of, crate::specs::Readings::entry_in_store_line))]
 pub fn read_line(alloc: Global, line: &[u8]) -> Result<Reading<'_>, AllocError>
-    ensures means { IfOk result (λ reading. seen_reading line.now reading ≡ spec.reading_of line.now) }
+    ensures means { IfOk result
+        (λ reading. seen_store_line_reading line.now reading ≡ spec.store_line_reading_of line.now) }
     ensures defines { IfOk result (λ reading. (number : ℕ)
-        → spec.entry_in (plain_line number line.now) ≡ spec.defined_by (seen_reading line.now reading)) }
+        → spec.entry_in_store_line (plain_store_line number line.now)
+        ≡ spec.defined_by (seen_store_line_reading line.now reading)) }
 {
     let role = match classify(line) {
         LineKind::Definition | LineKind::UnitList => return read_definition(alloc, line),
@@ -51,15 +53,16 @@ pub fn read_line(alloc: Global, line: &[u8]) -> Result<Reading<'_>, AllocError>
 
 // Returns the reading of a line with the fault that `words` describe.
 fn faulty(alloc: Global, words: &[u8]) -> Result<Reading<'_>, AllocError>
-    ensures { IfOk result (λ reading. (line : List ℕ) → seen_reading line reading ≡ spec.Faulty words.now) }
+    ensures { IfOk result (λ reading. (line : List ℕ) → seen_store_line_reading line reading ≡ spec.Faulty words.now) }
 {
     Ok(Reading::Faulty(Text::from_bytes(alloc, words)?))
 }
 
 // Reads a line that should define a key.
 fn read_definition(alloc: Global, line: &[u8]) -> Result<Reading<'_>, AllocError>
-    requires { has_entry (kind_of line.now) ≡ true }
-    ensures { IfOk result (λ reading. seen_reading line.now reading ≡ spec.of_entry (entry_of line.now)) }
+    requires { has_entry (kind_of_line line.now) ≡ true }
+    ensures { IfOk result (λ reading. seen_store_line_reading line.now reading
+        ≡ spec.store_line_reading_of_entry (entry_of line.now)) }
 {
     match read_entry(alloc, line) {
         Ok((key, what)) => Ok(Reading::Defines(key, what)),

@@ -3,10 +3,10 @@
 ghost use Rattle.std.specs.Prelude.{◌≡◌, ◌≤◌, ◌<◌, ◌++◌, List, ℕ, Some, length, slice_get, IfOk, OnOk, MatchOption};
 ghost use Rattle.std.specs.Option.{option_copied, option_to_list};
 ghost use Rattle.units_io.specs.FileMap.{longest_file};
-ghost use Rattle.units_io.specs.Outcomes.{Gives};
-ghost use Rattle.def_lines.specs.Lines.{ends_with};
+ghost use Rattle.units_io.specs.Outcomes.{GivesIoResult};
+ghost use Rattle.def_lines.specs.Lines.{line_ends_with};
 ghost use Rattle.deck_lines.specs.declared.line.DeckLine.{DeckLine};
-ghost use Rattle.deck_save.specs.LineTexts.{texts_of, texts_where};
+ghost use Rattle.deck_save.specs.LineTexts.{saved_texts_of_line, saved_texts_of_lines};
 ghost use Rattle.deck_save.specs.SavedText.{saved_file};
 ghost use Rattle.deck_save.specs.SavedLines as spec;
 ghost use Rattle.deck_save.specs.declared.fault.SaveFault.TheVariants.{OutOfMemory};
@@ -21,7 +21,7 @@ use units_io::{LONGEST_FILE, Text};
 /// order, on a line of its own. A text that ends in `\` is followed by one more `\` and an empty line. The error is
 /// `TooLong` if this is more than 16,777,216 bytes; the only other error is running out of memory.
 pub fn save_text(alloc: Global, deck: &Deck) -> Result<Text, SaveFault>
-    ensures { Gives OutOfMemory (λ (text : List ℕ). text) result (saved_file deck.now) }
+    ensures { GivesIoResult OutOfMemory (λ (text : List ℕ). text) result (saved_file deck.now) }
 {
     let active = deck.active_lines(alloc)?;
     let Some(len) = saved_len(deck, active.as_slice()) else {
@@ -36,8 +36,9 @@ pub fn save_text(alloc: Global, deck: &Deck) -> Result<Text, SaveFault>
 fn saved_len(deck: &Deck, active: &[bool]) -> Option<usize>
     requires { length active.now ≡ length deck.now.lines }
     ensures { MatchOption result
-        (longest_file < length (spec.saved_lines (texts_where active.now deck.now.lines)))
-        (λ len. (len ≡ length (spec.saved_lines (texts_where active.now deck.now.lines))) × (len ≤ longest_file)) }
+        (longest_file < length (spec.saved_lines (saved_texts_of_lines active.now deck.now.lines)))
+        (λ len. (len ≡ length (spec.saved_lines (saved_texts_of_lines active.now deck.now.lines)))
+        × (len ≤ longest_file)) }
 {
     let mut len = 0;
     for place in 0..active.len() {
@@ -53,7 +54,7 @@ fn saved_len(deck: &Deck, active: &[bool]) -> Option<usize>
 // Returns the length in bytes of the saved line for the line at `place`, or 0 if that line is not saved.
 fn len_at(deck: &Deck, active: bool, place: usize) -> usize
     ensures { (line : DeckLine) → slice_get deck.now.lines place ≡ Some line
-        → result ≡ length (spec.saved_lines (texts_of active line)) }
+        → result ≡ length (spec.saved_lines (saved_texts_of_line active line)) }
 {
     match text_at(deck, active, place) {
         Some(text) => text.len() + line_end(text).len(),
@@ -69,7 +70,7 @@ fn saved_lines(
     len: usize,
 ) -> Result<Vec<u8>, AllocError>
     requires { length active.now ≡ length deck.now.lines }
-    ensures { IfOk result (λ lines. lines.items ≡ spec.saved_lines (texts_where active.now deck.now.lines)) }
+    ensures { IfOk result (λ lines. lines.items ≡ spec.saved_lines (saved_texts_of_lines active.now deck.now.lines)) }
 {
     let mut lines = Vec::with_capacity(alloc, len)?;
     for place in 0..active.len() {
@@ -81,7 +82,7 @@ fn saved_lines(
 // Appends the saved line for the line at `place`, if that line is saved.
 fn put_at(lines: &mut Vec<u8>, deck: &Deck, active: bool, place: usize) -> Result<(), AllocError>
     ensures { OnOk result ((line : DeckLine) → slice_get deck.now.lines place ≡ Some line
-        → lines.new.items ≡ lines.old.items ++ spec.saved_lines (texts_of active line)) }
+        → lines.new.items ≡ lines.old.items ++ spec.saved_lines (saved_texts_of_line active line)) }
 {
     match text_at(deck, active, place) {
         Some(text) => put_line(lines, text),
@@ -92,7 +93,7 @@ fn put_at(lines: &mut Vec<u8>, deck: &Deck, active: bool, place: usize) -> Resul
 // Returns the text of the line at `place`, without blanks at the ends, or `None` if it is not active or defines no key.
 fn text_at(deck: &Deck, active: bool, place: usize) -> Option<&[u8]>
     ensures { (line : DeckLine) → slice_get deck.now.lines place ≡ Some line
-        → texts_of active line ≡ option_to_list (option_copied result) }
+        → saved_texts_of_line active line ≡ option_to_list (option_copied result) }
 {
     if !active {
         return None;
@@ -116,14 +117,14 @@ fn put_line(lines: &mut Vec<u8>, text: &[u8]) -> Result<(), AllocError>
 
 // Returns the bytes that end the line of a text.
 fn line_end(text: &[u8]) -> &'static [u8]
-    ensures { result.now ≡ spec.line_end text.now }
+    ensures { result.now ≡ spec.saved_line_end text.now }
 {
     if goes_on(text) { b"\\\n\n" } else { b"\n" }
 }
 
 // Reports whether the line of a text would continue on the next line.
 fn goes_on(text: &[u8]) -> bool
-    ensures { result ≡ ends_with 92 text.now }
+    ensures { result ≡ line_ends_with 92 text.now }
 {
     match text.split_last() {
         Some((last, _)) => *last == b'\\',

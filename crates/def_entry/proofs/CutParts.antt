@@ -18,9 +18,9 @@ abbrev pub around : Bool → ℕ → List ℕ → Option (List ℕ × List ℕ)
 around there n text = option_map (λ k. (take k text, drop (k + 1) text)) (cond there (Some n) None)
 
 -- the parts of a text with such a byte: the first part, and the parts of the text after the byte
-pub parts-some : (mark : ℕ) (text front behind : List ℕ) → cut_at mark text ≡ Some (front, behind)
+pub entry_parts-some : (mark : ℕ) (text front behind : List ℕ) → cut_at mark text ≡ Some (front, behind)
     → slice_split (λ b. b == mark) text ≡ front ∷ slice_split (λ b. b == mark) behind
-parts-some mark text front behind cut = go (nat_lt (place mark text) (length text)) refl cut
+entry_parts-some mark text front behind cut = go (nat_lt (place mark text) (length text)) refl cut
   where
     go : (t : Bool) → nat_lt (place mark text) (length text) ≡ t
         → around t (place mark text) text ≡ Some (front, behind)
@@ -35,9 +35,9 @@ parts-some mark text front behind cut = go (nat_lt (place mark text) (length tex
     go false e cut = cc
 
 -- the text after the byte is shorter
-pub shorter : (mark : ℕ) (text front behind : List ℕ) → cut_at mark text ≡ Some (front, behind)
+pub cut_entry_text_is_shorter : (mark : ℕ) (text front behind : List ℕ) → cut_at mark text ≡ Some (front, behind)
     → length behind < length text
-shorter mark text front behind cut = go (nat_lt (place mark text) (length text)) refl cut
+cut_entry_text_is_shorter mark text front behind cut = go (nat_lt (place mark text) (length text)) refl cut
   where
     go : (t : Bool) → nat_lt (place mark text) (length text) ≡ t
         → around t (place mark text) text ≡ Some (front, behind) → length behind < length text
@@ -49,8 +49,9 @@ shorter mark text front behind cut = go (nat_lt (place mark text) (length text))
     go false e cut = cc
 
 -- a text without such a byte is its only part
-pub parts-none : (mark : ℕ) (text : List ℕ) → cut_at mark text ≡ None → slice_split (λ b. b == mark) text ≡ text ∷ []
-parts-none mark text cut = go (nat_lt (place mark text) (length text)) refl cut
+pub entry_parts-none : (mark : ℕ) (text : List ℕ) → cut_at mark text ≡ None
+    → slice_split (λ b. b == mark) text ≡ text ∷ []
+entry_parts-none mark text cut = go (nat_lt (place mark text) (length text)) refl cut
   where
     go : (t : Bool) → nat_lt (place mark text) (length text) ≡ t → around t (place mark text) text ≡ None
         → slice_split (λ b. b == mark) text ≡ text ∷ []

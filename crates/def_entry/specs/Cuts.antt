@@ -13,5 +13,5 @@ abbrev pub cut_at : ℕ → List ℕ → Option (List ℕ × List ℕ)
 cut_at mark text = option_map (λ n. (take n text, drop (n + 1) text)) (position (λ b. b == mark) text)
 
 -- the text does not contain `mark`
-abbrev pub lacks : ℕ → List ℕ → Bool
-lacks mark text = list_all (λ b. not (b == mark)) text
+abbrev pub entry_text_lacks : ℕ → List ℕ → Bool
+entry_text_lacks mark text = list_all (λ b. not (b == mark)) text

@@ -2,7 +2,7 @@
 use Rattle.std.specs.Prelude.{◌≡◌, ℕ, pos, negsuc, true, List, [], ◌∷◌, Some, None, Result, Ok, Err, codes, map}
 use Rattle.expr_tree.specs.declared.fault.ParseFault.TheVariants.{Syntax as SyntaxFault, NumeralTooLong, NestedTooDeep}
 use Rattle.expr_tree.specs.Syntax.{Syntax, Number, Word, Argument, Juxtaposed, NoMember, Member}
-use Rattle.frac128.specs.Fraction.{whole}
+use Rattle.frac128.specs.Fraction.{whole_fraction}
 use Rattle.def_entry.specs.declared.fault.EntryFault.{EntryFault}
 use Rattle.def_entry.specs.declared.fault.EntryFault.TheVariants.{BadName, BadForm, BadTable, Parse}
 use Rattle.def_entry.specs.declared.key.Key.{Key}
@@ -10,32 +10,32 @@ use Rattle.def_entry.specs.declared.key.Kind.{Kind}
 use Rattle.def_entry.specs.declared.key.Kind.TheVariants as kind
 use Rattle.def_entry.specs.Entries.{Entry, What, Primitive, Dimensionless, Body, Function, Alias, Table, ListOf}
 use Rattle.def_entry.specs.Faults.{entry_fault_text}
-use Rattle.def_entry.specs.Intervals.{bound}
-use Rattle.def_entry.specs.Keys.{key, key_of, key_text}
+use Rattle.def_entry.specs.Intervals.{option_bound}
+use Rattle.def_entry.specs.Keys.{key, key_of_spelling, key_text}
 use Rattle.def_entry.specs.EntryReading.{entry_of}
 
 -- the key of this kind and this name, whose entry has this text and this meaning
-abbrev pub gives : Kind → List ℕ → List ℕ → What → Result (Key × Entry) EntryFault
-gives k name text what = Ok (key k name, record { text = text; what = what })
+abbrev pub example_line_entry : Kind → List ℕ → List ℕ → What → Result (Key × Entry) EntryFault
+example_line_entry k name text what = Ok (key k name, record { text = text; what = what })
 
 -- a whole number
-abbrev pub example_number_tree : ℕ → Syntax
-example_number_tree n = Number (record { coefficient = n; scale = pos 0 })
+abbrev pub entry_number_tree : ℕ → Syntax
+entry_number_tree n = Number (record { coefficient = n; scale = pos 0 })
 
 -- a function of x with an inverse by its own name, whose argument is a nonnegative number of meters
-abbrev pub from_meters : What
-from_meters = Function (record {
+abbrev pub from_meters_entry : What
+from_meters_entry = Function (record {
   in_unit = Some (Word (codes "m"));
   out_unit = None;
-  domain = Some (record { low = Some (bound true (whole (pos 0))); high = None });
+  domain = Some (record { low = Some (option_bound true (whole_fraction (pos 0))); high = None });
   range = None;
   forward = Argument;
   inverse = Some Argument;
 })
 
 -- a function without options
-abbrev pub constant : Syntax → What
-constant tree = Function (record {
+abbrev pub constant_entry : Syntax → What
+constant_entry tree = Function (record {
   in_unit = None;
   out_unit = None;
   domain = None;
@@ -45,29 +45,33 @@ constant tree = Function (record {
 })
 
 -- a table from 1 to 3, in feet
-abbrev pub short_table : What
-short_table = Table (record {
+abbrev pub short_table_entry : What
+short_table_entry = Table (record {
   unit = Word (codes "ft");
-  points = (whole (pos 1), whole (pos 2)) ∷ (whole (pos 3), record { num = negsuc 0; den = 2 }) ∷ [];
+  points = (whole_fraction (pos 1), whole_fraction (pos 2)) ∷
+      (whole_fraction (pos 3), record { num = negsuc 0; den = 2 }) ∷ [];
 })
 
 -- law: lines with a key and an entry, one for each form
 abbrev pub EntriesLaw : Type 0
 EntriesLaw =
-    (entry_of (codes "m !") ≡ gives kind.Unit (codes "m") (codes "!") Primitive)
-    × (entry_of (codes "+ one !dimensionless") ≡ gives kind.Unit (codes "one") (codes "!dimensionless") Dimensionless)
+    (entry_of (codes "m !") ≡ example_line_entry kind.Unit (codes "m") (codes "!") Primitive)
+    × (entry_of (codes "+ one !dimensionless") ≡ example_line_entry kind.Unit (codes "one") (codes "!dimensionless")
+    Dimensionless)
     × (entry_of (codes "ft 12 in")
-    ≡ gives kind.Unit (codes "ft") (codes "12 in")
-    (Body (Juxtaposed (Member (example_number_tree 12) (Member (Word (codes "in")) NoMember)))))
-    × (entry_of (codes "k-  kilo") ≡ gives kind.Prefix (codes "k") (codes "kilo") (Body (Word (codes "kilo"))))
+    ≡ example_line_entry kind.Unit (codes "ft") (codes "12 in")
+    (Body (Juxtaposed (Member (entry_number_tree 12) (Member (Word (codes "in")) NoMember)))))
+    × (entry_of (codes "k-  kilo") ≡ example_line_entry kind.Prefix (codes "k") (codes "kilo")
+    (Body (Word (codes "kilo"))))
     × (entry_of (codes "f(x) units=[m;] domain=[0,) x ; f")
-    ≡ gives kind.Func (codes "f") (codes "(x) units=[m;] domain=[0,) x ; f") from_meters)
+    ≡ example_line_entry kind.Func (codes "f") (codes "(x) units=[m;] domain=[0,) x ; f") from_meters_entry)
     × (entry_of (codes "f( x ) noerror 2")
-    ≡ gives kind.Func (codes "f") (codes "( x ) noerror 2") (constant (example_number_tree 2)))
-    × (entry_of (codes "g() f()") ≡ gives kind.Func (codes "g") (codes "() f()") (Alias (codes "f")))
-    × (entry_of (codes "t[ft] 1 2, 3 -1|2") ≡ gives kind.Func (codes "t") (codes "[ft] 1 2, 3 -1|2") short_table)
+    ≡ example_line_entry kind.Func (codes "f") (codes "( x ) noerror 2") (constant_entry (entry_number_tree 2)))
+    × (entry_of (codes "g() f()") ≡ example_line_entry kind.Func (codes "g") (codes "() f()") (Alias (codes "f")))
+    × (entry_of (codes "t[ft] 1 2, 3 -1|2") ≡ example_line_entry kind.Func (codes "t") (codes "[ft] 1 2, 3 -1|2")
+    short_table_entry)
     × (entry_of (codes "!unitlist l ft;m")
-    ≡ gives kind.List (codes "l") (codes "ft;m") (ListOf (Word (codes "ft") ∷ Word (codes "m") ∷ [])))
+    ≡ example_line_entry kind.List (codes "l") (codes "ft;m") (ListOf (Word (codes "ft") ∷ Word (codes "m") ∷ [])))
 
 -- law: the faults of lines, each the first fault of its line
 abbrev pub EntryFaultsLaw : Type 0
@@ -86,8 +90,8 @@ EntryFaultsLaw =
     × (entry_of (codes "a 1e10000 m") ≡ Err (Parse NumeralTooLong))
 
 -- keys and their texts
-abbrev pub example_keys : List (Key × List ℕ)
-example_keys =
+abbrev pub example_key_spellings : List (Key × List ℕ)
+example_key_spellings =
     (key kind.Unit (codes "m"), codes "m")
     ∷ (key kind.Prefix (codes "milli"), codes "milli-")
     ∷ (key kind.Func (codes "tempC"), codes "tempC()")
@@ -98,8 +102,8 @@ example_keys =
     ∷ []
 
 -- texts of no key
-abbrev pub no_keys : List (List ℕ)
-no_keys =
+abbrev pub spellings_of_no_key : List (List ℕ)
+spellings_of_no_key =
     codes "" ∷ codes "-" ∷ codes "()" ∷ codes ")" ∷ codes "!"
     ∷ codes "!unitlist" ∷ codes "!unitlist " ∷ codes "!unitlist  z" ∷ codes "!unitlist z "
     ∷ codes "a b" ∷ codes "a--" ∷ codes "a-()" ∷ codes "a()-" ∷ codes "a(x)" ∷ codes "a)"
@@ -108,14 +112,15 @@ no_keys =
     ∷ codes " m" ∷ codes "m " ∷ codes "a()()" ∷ []
 
 -- law: each key has its text and is read from it, and no key is read from the other texts
-pub record KeysLaw : Type 0 where
-  pub key_texts : map (λ row. key_text row.0) example_keys ≡ map (λ row. row.1) example_keys
-  pub keys_of_texts : map (λ row. key_of row.1) example_keys ≡ map (λ row. Some row.0) example_keys
-  pub rejected_texts : map key_of no_keys ≡ map (λ bytes. None) no_keys
+pub record KeySpellingsLaw : Type 0 where
+  pub key_texts : map (λ row. key_text row.0) example_key_spellings ≡ map (λ row. row.1) example_key_spellings
+  pub keys_of_texts : map (λ row. key_of_spelling row.1) example_key_spellings ≡ map (λ row. Some row.0)
+      example_key_spellings
+  pub rejected_texts : map key_of_spelling spellings_of_no_key ≡ map (λ bytes. None) spellings_of_no_key
 
 -- faults and their texts
-abbrev pub fault_texts : List (EntryFault × List ℕ)
-fault_texts =
+abbrev pub example_entry_fault_texts : List (EntryFault × List ℕ)
+example_entry_fault_texts =
     (BadName (codes "foo2"), codes "bad name: foo2")
     ∷ (BadForm, codes "bad definition")
     ∷ (BadTable, codes "bad table")
@@ -123,13 +128,14 @@ fault_texts =
     ∷ (Parse NestedTooDeep, codes "nested too deep")
     ∷ []
 
--- law: each fault has the text that `fault_texts` gives it
-abbrev pub FaultTextsLaw : Type 0
-FaultTextsLaw = map (λ row. entry_fault_text row.0) fault_texts ≡ map (λ row. row.1) fault_texts
+-- law: each fault has the text that `example_entry_fault_texts` gives it
+abbrev pub EntryFaultTextsLaw : Type 0
+EntryFaultTextsLaw = map (λ row. entry_fault_text row.0) example_entry_fault_texts ≡ map
+    (λ row. row.1) example_entry_fault_texts
 
 -- law: all of these examples hold
 pub record EntryExamplesLaw : Type 0 where
   pub entries : EntriesLaw
   pub faults : EntryFaultsLaw
-  pub keys_read : KeysLaw
-  pub faults_told : FaultTextsLaw
+  pub keys_read : KeySpellingsLaw
+  pub faults_told : EntryFaultTextsLaw

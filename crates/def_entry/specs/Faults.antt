@@ -8,10 +8,10 @@ use Rattle.def_entry.specs.declared.fault.EntryFault.TheVariants as entry
 use Rattle.def_entry.specs.EntryReading.{entry_of}
 
 -- the fault is one of the line, not an out-of-memory fault
-abbrev pub is_fault_of_line : EntryFault → Bool
-is_fault_of_line entry.OutOfMemory = false
-is_fault_of_line (entry.Parse parse.OutOfMemory) = false
-is_fault_of_line _ = true
+abbrev pub is_entry_fault_of_line : EntryFault → Bool
+is_entry_fault_of_line entry.OutOfMemory = false
+is_entry_fault_of_line (entry.Parse parse.OutOfMemory) = false
+is_entry_fault_of_line _ = true
 
 -- the message for an expression
 abbrev pub parse_fault_text : ParseFault → List ℕ
@@ -30,4 +30,4 @@ entry_fault_text entry.OutOfMemory = []
 
 -- law: the fault of a line is never an out-of-memory fault
 abbrev pub EntryMemoryLaw : Type 0
-EntryMemoryLaw = (line : List ℕ) (fault : EntryFault) → entry_of line ≡ Err fault → is_fault_of_line fault ≡ true
+EntryMemoryLaw = (line : List ℕ) (fault : EntryFault) → entry_of line ≡ Err fault → is_entry_fault_of_line fault ≡ true

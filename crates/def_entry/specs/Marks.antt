@@ -2,41 +2,41 @@
 use Rattle.std.specs.Prelude.{ℕ}
 
 -- `!`
-abbrev pub exclamation : ℕ
-exclamation = 33
+abbrev pub entry_exclamation : ℕ
+entry_exclamation = 33
 
 -- `(`
-abbrev pub open_paren : ℕ
-open_paren = 40
+abbrev pub entry_open_paren : ℕ
+entry_open_paren = 40
 
 -- `)`
-abbrev pub close_paren : ℕ
-close_paren = 41
+abbrev pub entry_close_paren : ℕ
+entry_close_paren = 41
 
 -- `+`
-abbrev pub plus_mark : ℕ
-plus_mark = 43
+abbrev pub entry_plus : ℕ
+entry_plus = 43
 
 -- `,`
-abbrev pub comma : ℕ
-comma = 44
+abbrev pub entry_comma : ℕ
+entry_comma = 44
 
 -- `-`
-abbrev pub minus_mark : ℕ
-minus_mark = 45
+abbrev pub entry_minus : ℕ
+entry_minus = 45
 
 -- `;`
-abbrev pub semicolon : ℕ
-semicolon = 59
+abbrev pub entry_semicolon : ℕ
+entry_semicolon = 59
 
 -- `[`
-abbrev pub open_bracket : ℕ
-open_bracket = 91
+abbrev pub entry_open_bracket : ℕ
+entry_open_bracket = 91
 
 -- `]`
-abbrev pub close_bracket : ℕ
-close_bracket = 93
+abbrev pub entry_close_bracket : ℕ
+entry_close_bracket = 93
 
 -- `|`
-abbrev pub bar_mark : ℕ
-bar_mark = 124
+abbrev pub entry_bar : ℕ
+entry_bar = 124

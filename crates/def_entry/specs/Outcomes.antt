@@ -1,6 +1,6 @@
 -- The results of calls of the program, and values that may be faults.
 use Rattle.std.specs.Prelude.{ℕ, List, if◌then◌else◌, Option, Some, None, Result, Ok, Err}
-use Rattle.units_io.specs.Outcomes.{Gives as GivesUnless}
+use Rattle.units_io.specs.Outcomes.{GivesIoResult as GivesUnless}
 use Rattle.expr_tree.specs.declared.fault.ParseFault.{ParseFault}
 use Rattle.expr_tree.specs.Names.{is_name}
 use Rattle.expr_tree.specs.ParseResult.{parse_of}
@@ -13,13 +13,13 @@ abbrev pub GivesEntry : {A B : Type 0} → (A → B) → Result A EntryFault →
 GivesEntry seen given said = GivesUnless OutOfMemory seen given said
 
 -- the value, or a fault if there is none
-abbrev pub or_fault : {A : Type 0} → EntryFault → Option A → Result A EntryFault
-or_fault fault None = Err fault
-or_fault fault (Some x) = Ok x
+abbrev pub or_entry_fault : {A : Type 0} → EntryFault → Option A → Result A EntryFault
+or_entry_fault fault None = Err fault
+or_entry_fault fault (Some x) = Ok x
 
 -- a name, or the fault of a bad name
-abbrev pub name_or_fault : List ℕ → Result (List ℕ) EntryFault
-name_or_fault w = if is_name w then Ok w else Err (BadName w)
+abbrev pub name_or_entry_fault : List ℕ → Result (List ℕ) EntryFault
+name_or_entry_fault w = if is_name w then Ok w else Err (BadName w)
 
 -- the result of the parser
 abbrev pub parsed_entry : Result Syntax ParseFault → Result Syntax EntryFault

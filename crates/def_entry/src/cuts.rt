@@ -4,7 +4,7 @@ ghost use Rattle.std.specs.Prelude.{◌≡◌, ◌==◌, ◌<◌, length, option
 ghost use Rattle.std.specs.List.{position};
 ghost use Rattle.std.specs.Option.{option_copied};
 ghost use Rattle.def_entry.specs.Cuts as spec;
-ghost use Rattle.def_entry.specs.LineViews.{seen_pair};
+ghost use Rattle.def_entry.specs.LineViews.{seen_entry_text_pair};
 
 // Returns the text after its first byte if that byte is `mark`, and `None` otherwise.
 pub(crate) fn behind_byte(text: &[u8], mark: u8) -> Option<&[u8]>
@@ -16,7 +16,7 @@ pub(crate) fn behind_byte(text: &[u8], mark: u8) -> Option<&[u8]>
 
 /// Returns the text before the first `mark` and the text after it, or `None` if there is no `mark`.
 pub fn cut_at(text: &[u8], mark: u8) -> Option<(&[u8], &[u8])>
-    ensures { option_map seen_pair result ≡ spec.cut_at mark text.now }
+    ensures { option_map seen_entry_text_pair result ≡ spec.cut_at mark text.now }
 {
     match place_of(text, mark) {
         Some(place) => Some((&text[..place], &text[place + 1..])),

@@ -2,7 +2,7 @@
 
 ghost use Rattle.std.specs.Prelude.{◌≡◌, IfOk, option_map};
 ghost use Rattle.expr_tree.specs.Trees.{syntax};
-ghost use Rattle.def_entry.specs.Views.{function_view, table_view, what_view};
+ghost use Rattle.def_entry.specs.Views.{entry_definition_view, function_entry_view, table_entry_view};
 
 use crate::entry::{FunctionDef, TableDef, What};
 use expr_tree::Tree;
@@ -11,7 +11,7 @@ use std::alloc::{AllocError, Global};
 impl What {
     /// Returns a copy of the definition. Fails only if memory runs out.
     pub fn copy(&self, alloc: Global) -> Result<What, AllocError>
-        ensures { IfOk result (λ what. what_view what ≡ what_view self.now) }
+        ensures { IfOk result (λ what. entry_definition_view what ≡ entry_definition_view self.now) }
     {
         match self {
             What::Primitive => Ok(What::Primitive),
@@ -34,7 +34,7 @@ impl What {
 impl FunctionDef {
     // Returns a copy of the function.
     fn copy(&self, alloc: Global) -> Result<FunctionDef, AllocError>
-        ensures { IfOk result (λ function. function_view function ≡ function_view self.now) }
+        ensures { IfOk result (λ function. function_entry_view function ≡ function_entry_view self.now) }
     {
         let in_unit = copied_tree(alloc, &self.in_unit)?;
         let out_unit = copied_tree(alloc, &self.out_unit)?;
@@ -54,7 +54,7 @@ impl FunctionDef {
 impl TableDef {
     // Returns a copy of the table.
     fn copy(&self, alloc: Global) -> Result<TableDef, AllocError>
-        ensures { IfOk result (λ table. table_view table ≡ table_view self.now) }
+        ensures { IfOk result (λ table. table_entry_view table ≡ table_entry_view self.now) }
     {
         let unit = self.unit.copy(alloc)?;
         let points = self.points.copy(alloc)?;

@@ -1,12 +1,12 @@
 //! The key and the entry of a line.
 
 ghost use Rattle.std.specs.Prelude.{◌≡◌, ◌⊎◌, true, MatchResult};
-ghost use Rattle.def_lines.specs.Kinds.{kind_of};
-ghost use Rattle.def_entry.specs.EntryGrammar.{HasFault, IsEntry};
+ghost use Rattle.def_lines.specs.Kinds.{kind_of_line};
+ghost use Rattle.def_entry.specs.EntryGrammar.{HasEntryFault, IsEntry};
 ghost use Rattle.def_entry.specs.Outcomes.{GivesEntry};
-ghost use Rattle.def_entry.specs.EntryReading.{entry_by, entry_of, has_entry};
+ghost use Rattle.def_entry.specs.EntryReading.{entry_by_heading, entry_of, has_entry};
 ghost use Rattle.def_entry.specs.LineViews.{seen_entry, seen_heading};
-ghost use Rattle.def_entry.specs.Views.{said_by, what_view};
+ghost use Rattle.def_entry.specs.Views.{entry_definition_view, entry_with_definition};
 
 use crate::entry::What;
 use crate::fault::EntryFault;
@@ -22,10 +22,10 @@ use units_io::Text;
 /// a valid name; `BadForm` if the line does not have the form of a definition; `BadTable` if the points do not form a
 /// table; `Parse` with the first fault of its expressions.
 pub fn read_entry(alloc: Global, line: &[u8]) -> Result<(Key, What), EntryFault>
-    requires { has_entry (kind_of line.now) ≡ true }
+    requires { has_entry (kind_of_line line.now) ≡ true }
     ensures exact { MatchResult result
-        (λ made. IsEntry line.now made.0 (said_by line.now made.1))
-        (λ fault. (fault ≡ EntryFault.OutOfMemory) ⊎ HasFault line.now fault) }
+        (λ made. IsEntry line.now made.0 (entry_with_definition line.now made.1))
+        (λ fault. (fault ≡ EntryFault.OutOfMemory) ⊎ HasEntryFault line.now fault) }
     ensures computed { GivesEntry (seen_entry line.now) result (entry_of line.now) }
 {
     entry_behind(alloc, &heading_in(line))
@@ -33,8 +33,8 @@ pub fn read_entry(alloc: Global, line: &[u8]) -> Result<(Key, What), EntryFault>
 
 // Returns the key of a heading and the definition in its line.
 fn entry_behind(alloc: Global, heading: &Heading) -> Result<(Key, What), EntryFault>
-    ensures { GivesEntry (λ made. (made.0, record { text = heading.now.text.now; what = what_view made.1 }))
-        result (entry_by (seen_heading heading.now)) }
+    ensures { GivesEntry (λ made. (made.0, record { text = heading.now.text.now; what = entry_definition_view made.1 }))
+        result (entry_by_heading (seen_heading heading.now)) }
 {
     let what = what_of(alloc, heading)?;
     let name = Text::from_bytes(alloc, heading.name)?;

@@ -13,7 +13,7 @@ use units_io::Text;
 /// Returns the message of the fault: `bad name: ` and the bytes that are not a name, `bad definition`, `bad table`,
 /// `syntax error at ` and the place, `numeral too long`, or `nested too deep`. Fails only if memory runs out.
 pub fn entry_fault_text(alloc: Global, fault: &EntryFault) -> Result<Text, AllocError>
-    requires { spec.is_fault_of_line fault.now ≡ true }
+    requires { spec.is_entry_fault_of_line fault.now ≡ true }
     ensures { IfOk result (λ text. text ≡ spec.entry_fault_text fault.now) }
 {
     match fault {

@@ -3,7 +3,7 @@
 ghost use Rattle.std.specs.Prelude.{◌≡◌, option_map};
 ghost use Rattle.std.specs.Option.{option_copied};
 ghost use Rattle.def_entry.specs.Forms as spec;
-ghost use Rattle.def_entry.specs.LineViews.{seen_form, seen_options, seen_pair};
+ghost use Rattle.def_entry.specs.LineViews.{seen_entry_form, seen_entry_text_pair, seen_options};
 
 use crate::cuts::cut_at;
 use crate::options::{Options, options_at};
@@ -21,7 +21,7 @@ pub(crate) struct Form<'a> {
 // incomplete or repeated, or if a body is empty.
 #[tactic(auto, unfolding(crate::specs::Forms::form_of))]
 pub(crate) fn form_of(text: &[u8]) -> Option<Form<'_>>
-    ensures { option_map seen_form result ≡ spec.form_of text.now }
+    ensures { option_map seen_entry_form result ≡ spec.form_of text.now }
 {
     let Some((options, bodies)) = options_at(text) else {
         return None;

@@ -4,8 +4,8 @@ ghost use Rattle.std.specs.Prelude.{option_map};
 ghost use Rattle.std.specs.Option.{option_copied};
 ghost use Rattle.def_entry.specs.Outcomes.{GivesEntry};
 ghost use Rattle.def_entry.specs.EntryReading as spec;
-ghost use Rattle.def_entry.specs.LineViews.{seen_form, seen_tree, seen_trees, seen_units};
-ghost use Rattle.def_entry.specs.Views.{what_view};
+ghost use Rattle.def_entry.specs.LineViews.{seen_entry_form, seen_entry_tree, seen_entry_trees, seen_option_units};
+ghost use Rattle.def_entry.specs.Views.{entry_definition_view};
 
 use crate::entry::{FunctionDef, What};
 use crate::expression::tree_of;
@@ -22,7 +22,8 @@ pub(crate) fn function_of(
     parameter: &[u8],
     form: &Form,
 ) -> Result<What, EntryFault>
-    ensures { GivesEntry what_view result (spec.function_of name.now parameter.now (seen_form form.now)) }
+    ensures { GivesEntry entry_definition_view result
+        (spec.function_of name.now parameter.now (seen_entry_form form.now)) }
 {
     let (in_unit, out_unit) = unit_trees(alloc, form.options.units)?;
     let forward = tree_of(alloc, form.forward, Some(parameter))?;
@@ -43,7 +44,7 @@ fn unit_trees(
     alloc: Global,
     units: Option<Units>,
 ) -> Result<(Option<Tree>, Option<Tree>), EntryFault>
-    ensures { GivesEntry seen_trees result (spec.units_in (option_map seen_units units.entry)) }
+    ensures { GivesEntry seen_entry_trees result (spec.option_units_in (option_map seen_option_units units.entry)) }
 {
     let Some(units) = units else {
         return Ok((None, None));
@@ -55,7 +56,7 @@ fn unit_trees(
 
 // Returns a unit of a function, or `None` if its text is empty.
 fn unit_tree(alloc: Global, text: &[u8]) -> Result<Option<Tree>, EntryFault>
-    ensures { GivesEntry seen_tree result (spec.unit_tree text.now) }
+    ensures { GivesEntry seen_entry_tree result (spec.unit_tree text.now) }
 {
     if text.is_empty() {
         return Ok(None);
@@ -65,7 +66,7 @@ fn unit_tree(alloc: Global, text: &[u8]) -> Result<Option<Tree>, EntryFault>
 
 // Returns the inverse, in which the name of the function denotes its argument.
 fn inverse_tree(alloc: Global, name: &[u8], text: Option<&[u8]>) -> Result<Option<Tree>, EntryFault>
-    ensures { GivesEntry seen_tree result (spec.inverse_in name.now (option_copied text.entry)) }
+    ensures { GivesEntry seen_entry_tree result (spec.inverse_body_in name.now (option_copied text.entry)) }
 {
     match text {
         Some(text) => Ok(Some(tree_of(alloc, text, Some(name))?)),

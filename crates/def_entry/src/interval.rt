@@ -3,7 +3,7 @@
 ghost use Rattle.std.specs.Prelude.{◌≡◌, ◌<◌, length, option_map, IfSome};
 ghost use Rattle.std.specs.List.{position};
 ghost use Rattle.def_entry.specs.Intervals as spec;
-ghost use Rattle.def_entry.specs.LineViews.{seen_behind, seen_closed};
+ghost use Rattle.def_entry.specs.LineViews.{seen_entry_part_and_rest, seen_option_closing};
 
 use crate::cuts::cut_at;
 use crate::entry::{Bound, Span};
@@ -22,7 +22,7 @@ struct Closing<'a> {
 // Returns the interval at the front and the text after it.
 #[tactic(auto, unfolding(crate::specs::Intervals::interval_at))]
 pub(crate) fn interval_at(text: &[u8]) -> Option<(Span, &[u8])>
-    ensures { option_map seen_behind result ≡ spec.interval_at text.now }
+    ensures { option_map seen_entry_part_and_rest result ≡ spec.interval_at text.now }
 {
     let (low_closed, inside) = read_opening(text)?;
     let (low, behind) = cut_at(inside, b',')?;
@@ -34,7 +34,7 @@ pub(crate) fn interval_at(text: &[u8]) -> Option<(Span, &[u8])>
 
 // Returns whether the bracket at the front is `[`, and the text after it.
 fn read_opening(text: &[u8]) -> Option<(bool, &[u8])>
-    ensures { option_map seen_behind result ≡ spec.opening_bracket text.now }
+    ensures { option_map seen_entry_part_and_rest result ≡ spec.option_opening_bracket text.now }
 {
     match text.split_first()? {
         (b'[', behind) => Some((true, behind)),
@@ -45,7 +45,7 @@ fn read_opening(text: &[u8]) -> Option<(bool, &[u8])>
 
 // Returns the text before the first `]` or `)`, whether that bracket is `]`, and the text after it.
 fn read_closing(text: &[u8]) -> Option<Closing<'_>>
-    ensures { option_map seen_closed result ≡ spec.closing_bracket text.now }
+    ensures { option_map seen_option_closing result ≡ spec.option_closing_bracket text.now }
 {
     match closing_place(text) {
         Some(place) => Some(Closing {

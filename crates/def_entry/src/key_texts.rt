@@ -56,11 +56,12 @@ pub fn put_key(text: &mut Vec<u8>, key: &Key) -> Result<(), AllocError>
 /// Returns the key with a valid name whose text these bytes are. The error is `NotKey` if there is no such key.
 pub fn read_key(alloc: Global, bytes: &[u8]) -> Result<Key, KeyFault>
     ensures exact { MatchResult result
-        (λ key. spec.IsNamed key × (spec.key_text key ≡ bytes.now))
-        (λ fault. (fault ≡ key_fault.OutOfMemory) ⊎ ((fault ≡ key_fault.NotKey) × spec.IsNoKey bytes.now)) }
+        (λ key. spec.IsNamedEntryKey key × (spec.key_text key ≡ bytes.now))
+        (λ fault. (fault ≡ key_fault.OutOfMemory) ⊎ ((fault ≡ key_fault.NotKey) × spec.IsNoKeySpelling bytes.now)) }
     ensures computed { MatchResult result
-        (λ key. spec.key_of bytes.now ≡ Some key)
-        (λ fault. (fault ≡ key_fault.OutOfMemory) ⊎ ((fault ≡ key_fault.NotKey) × (spec.key_of bytes.now ≡ None))) }
+        (λ key. spec.key_of_spelling bytes.now ≡ Some key)
+        (λ fault. (fault ≡ key_fault.OutOfMemory)
+        ⊎ ((fault ≡ key_fault.NotKey) × (spec.key_of_spelling bytes.now ≡ None))) }
 {
     let kind = shown_kind(bytes);
     let Some(shown) = shown_name(kind, bytes) else {
@@ -75,7 +76,7 @@ pub fn read_key(alloc: Global, bytes: &[u8]) -> Result<Key, KeyFault>
 
 // Returns the kind of key that the start and the end of a text indicate.
 fn shown_kind(bytes: &[u8]) -> Kind
-    ensures { result ≡ spec.kind_shown bytes.now }
+    ensures { result ≡ spec.kind_in_spelling bytes.now }
 {
     if bytes.is_empty() {
         return Kind::Unit;

@@ -5,25 +5,25 @@ ghost use Rattle.def_entry.specs.Examples.{EntryExamplesLaw};
 ghost use Rattle.def_entry.specs.Faults.{EntryMemoryLaw};
 ghost use Rattle.def_entry.specs.HeadingGrammar.{HeadingLaw};
 ghost use Rattle.def_entry.specs.KeyOrder.{KeyOrderLaw};
-ghost use Rattle.def_entry.specs.Keys.{KeyOfLaw, OneKeyLaw};
-ghost use Rattle.def_entry.specs.OptionGrammar.{AnyOrderLaw, OptionsLaw};
-ghost use Rattle.def_entry.specs.PointGrammar.{PointsLaw};
-ghost use Rattle.def_entry.specs.EntryReading.{EntryTextLaw, SameTextLaw};
-ghost use Rattle.def_entry.specs.SameKeys.{SameKeysLaw};
+ghost use Rattle.def_entry.specs.Keys.{KeyOfSpellingLaw, OneKeySpellingLaw};
+ghost use Rattle.def_entry.specs.OptionGrammar.{AnyOptionOrderLaw, OptionsLaw};
+ghost use Rattle.def_entry.specs.PointGrammar.{PointPairsLaw};
+ghost use Rattle.def_entry.specs.EntryReading.{EntryTextLaw, SameEntryTextLaw};
+ghost use Rattle.def_entry.specs.SameKeys.{SameEntryKeysLaw};
 
 /// A text is read as a key if and only if that key has a valid name and this text.
 pub fn key_text_law()
-    ensures { KeyOfLaw }
+    ensures { KeyOfSpellingLaw }
 {}
 
 /// Keys with valid names have the same text only if they are equal.
 pub fn one_key_law()
-    ensures { OneKeyLaw }
+    ensures { OneKeySpellingLaw }
 {}
 
 /// Two entries for one key that lines give are equal if and only if their texts are equal.
 pub fn same_text_law()
-    ensures { SameTextLaw }
+    ensures { SameEntryTextLaw }
 {}
 
 /// The text of an entry is the text after the name in the heading of its line.
@@ -54,17 +54,17 @@ pub fn options_law()
 
 /// Points are read if and only if they are written according to the grammar.
 pub fn points_law()
-    ensures { PointsLaw }
+    ensures { PointPairsLaw }
 {}
 
 /// Exchanging two options does not change their meaning.
 pub fn any_order_law()
-    ensures { AnyOrderLaw }
+    ensures { AnyOptionOrderLaw }
 {}
 
 /// Keys of the same kind and the same name are equal.
 pub fn same_keys_law()
-    ensures { SameKeysLaw }
+    ensures { SameEntryKeysLaw }
 {}
 
 /// The order of keys is total: they are sorted by the bytes of their names, and then as units, prefixes, functions and

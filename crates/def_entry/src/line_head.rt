@@ -18,9 +18,9 @@ pub(crate) struct Heading<'a> {
 }
 
 // Returns the head of a line. One leading `+` and the blanks after it are ignored.
-#[tactic(auto, unfolding(crate::specs::Headings::head_of_line))]
+#[tactic(auto, unfolding(crate::specs::Headings::heading_of_line))]
 pub(crate) fn heading_in(line: &[u8]) -> Heading<'_>
-    ensures { seen_heading result ≡ spec.head_of_line line.now }
+    ensures { seen_heading result ≡ spec.heading_of_line line.now }
 {
     match line.split_first() {
         Some((b'!', directive)) => list_heading(directive),
@@ -115,7 +115,7 @@ pub(crate) fn stands_apart(text: &[u8]) -> bool
 
 // Reports whether the text starts with `(` or `[`.
 fn is_opened(text: &[u8]) -> bool
-    ensures { result ≡ spec.has_bracket text.now }
+    ensures { result ≡ spec.begins_with_entry_bracket text.now }
 {
     match text.split_first() {
         Some((first, _)) => is_opening(*first),

@@ -1,9 +1,9 @@
 //! The parts of a unit list.
 
 ghost use Rattle.std.specs.List.{slice_split};
-ghost use Rattle.expr_tree.specs.Trees.{trees_of};
+ghost use Rattle.expr_tree.specs.Trees.{syntax_of_trees};
 ghost use Rattle.def_entry.specs.Outcomes.{GivesEntry};
-ghost use Rattle.def_entry.specs.EntryReading.{entry_trees, is_semicolon};
+ghost use Rattle.def_entry.specs.EntryReading.{entry_trees, is_entry_semicolon};
 
 use crate::cuts::cut_at;
 use crate::expression::tree_of;
@@ -14,7 +14,7 @@ use std::alloc::Global;
 
 // Returns the trees of the parts, which are separated by `;`, from left to right.
 pub(crate) fn part_trees(alloc: Global, text: &[u8]) -> Result<Trees, EntryFault>
-    ensures { GivesEntry trees_of result (entry_trees (slice_split is_semicolon text.now)) }
+    ensures { GivesEntry syntax_of_trees result (entry_trees (slice_split is_entry_semicolon text.now)) }
 {
     let mut trees = Trees::new(alloc);
     let mut rest = text;

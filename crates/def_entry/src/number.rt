@@ -8,9 +8,9 @@ use frac128::{Frac, read_numeral};
 
 // Returns the value of a number: an optional sign, and a numeral or two numerals separated by `|`. Returns `None` if
 // the text is not a number or if its value does not fit.
-#[tactic(auto, unfolding(crate::specs::Numbers::text_number))]
+#[tactic(auto, unfolding(crate::specs::Numbers::entry_text_number))]
 pub(crate) fn number(text: &[u8]) -> Option<Frac>
-    ensures { result ≡ spec.text_number text.now }
+    ensures { result ≡ spec.entry_text_number text.now }
 {
     match text.split_first() {
         Some((b'-', behind)) => Some(unsigned_value(behind)?.negate()),

@@ -2,7 +2,7 @@
 
 ghost use Rattle.std.specs.Prelude.{◌≡◌, option_map, true};
 ghost use Rattle.def_entry.specs.Options as spec;
-ghost use Rattle.def_entry.specs.LineViews.{seen_found, seen_options, seen_units_found};
+ghost use Rattle.def_entry.specs.LineViews.{seen_option_units_and_rest, seen_options, seen_options_and_rest};
 
 use crate::cuts::{behind_byte, cut_at};
 use crate::entry::Span;
@@ -41,7 +41,7 @@ pub(crate) struct Options<'a> {
 // Skips blanks and returns the options at the front and the text after them. Returns `None` if an option has no value
 // or is repeated.
 pub(crate) fn options_at(text: &[u8]) -> Option<(Options<'_>, &[u8])>
-    ensures { option_map seen_found result ≡ spec.options_at text.now }
+    ensures { option_map seen_options_and_rest result ≡ spec.options_at text.now }
 {
     let mut options = Options::new();
     let mut rest = text;
@@ -72,7 +72,7 @@ impl<'a> Options<'a> {
     // the value is missing or if the option is repeated.
     fn add(&mut self, choice: Choice, text: &'a [u8]) -> Option<&'a [u8]>
         ensures { option_map (λ behind. (seen_options self.new, behind.now)) result
-            ≡ spec.with_choice choice (seen_options self.old) text.now }
+            ≡ spec.with_option_choice choice (seen_options self.old) text.now }
     {
         match choice {
             Choice::Units if self.units.is_none() => {
@@ -106,7 +106,7 @@ impl<'a> Options<'a> {
 impl Choice {
     // Returns the text with which the option starts.
     fn word(self) -> &'static [u8]
-        ensures { result.now ≡ spec.choice_word self }
+        ensures { result.now ≡ spec.option_choice_word self }
     {
         match self {
             Choice::Units => b"units=",
@@ -158,7 +158,7 @@ pub(crate) fn begins_with_no_error(text: &[u8]) -> bool
 
 // Returns the units in `[A;B]` and the text after it: A extends to the first `;`, and B from there to the next `]`.
 fn units_at(text: &[u8]) -> Option<(Units<'_>, &[u8])>
-    ensures { option_map seen_units_found result ≡ spec.units_at text.now }
+    ensures { option_map seen_option_units_and_rest result ≡ spec.units_at text.now }
 {
     let inside = behind_byte(text, b'[')?;
     let (in_unit, behind) = cut_at(inside, b';')?;

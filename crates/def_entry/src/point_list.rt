@@ -1,10 +1,10 @@
 //! The points of a table.
 
 ghost use Rattle.std.specs.Prelude.{◌≡◌, ◌≤◌, ◌++◌, length, option_map};
-ghost use Rattle.def_lines.specs.Words.{words_of};
-ghost use Rattle.def_entry.specs.Outcomes.{GivesEntry, or_fault};
+ghost use Rattle.def_lines.specs.Words.{words_between_blanks};
+ghost use Rattle.def_entry.specs.Outcomes.{GivesEntry, or_entry_fault};
 ghost use Rattle.def_entry.specs.PointLists as spec;
-ghost use Rattle.def_entry.specs.EntryReading.{points_in};
+ghost use Rattle.def_entry.specs.EntryReading.{point_pairs_in};
 
 use crate::cuts::cut_at;
 use crate::fault::EntryFault;
@@ -20,7 +20,7 @@ const MOST_POINTS: usize = 1_000;
 
 // Returns the table of a list of points.
 pub(crate) fn table_points(alloc: Global, text: &[u8]) -> Result<Points, EntryFault>
-    ensures { GivesEntry (λ points. points) result (points_in text.now) }
+    ensures { GivesEntry (λ points. points) result (point_pairs_in text.now) }
 {
     let points = points_of(alloc, text)?;
     match Points::new(alloc, &points) {
@@ -34,7 +34,7 @@ pub(crate) fn table_points(alloc: Global, text: &[u8]) -> Result<Points, EntryFa
 // points than a table can have. No more points are read or stored than are needed to detect that.
 fn points_of(alloc: Global, text: &[u8]) -> Result<Vec<(Frac, Frac)>, EntryFault>
     ensures { GivesEntry (λ points. points.items) result
-        (or_fault EntryFault.BadTable (spec.within_point_limit (spec.points_of text.now))) }
+        (or_entry_fault EntryFault.BadTable (spec.within_point_pair_limit (spec.points_of text.now))) }
 {
     let mut points = Vec::new(alloc);
     let mut rest = behind_no_error(trim_front(text));
@@ -59,11 +59,11 @@ fn behind_no_error(text: &[u8]) -> &[u8]
 
 // Appends the pairs of numbers in a text, of which there must be at least one, to the points.
 fn push_some_pairs(points: &mut Vec<(Frac, Frac)>, text: &[u8]) -> Result<(), EntryFault>
-    requires { length points.old.items ≤ spec.most_points }
+    requires { length points.old.items ≤ spec.most_point_pairs }
     ensures { GivesEntry (λ done. points.new.items) result
-        (or_fault EntryFault.BadTable
-        (spec.within_point_limit (option_map (λ pairs. points.old.items ++ pairs)
-        (spec.some_pairs (words_of text.now))))) }
+        (or_entry_fault EntryFault.BadTable
+        (spec.within_point_pair_limit (option_map (λ pairs. points.old.items ++ pairs)
+        (spec.some_point_pairs (words_between_blanks text.now))))) }
 {
     if trim_front(text).is_empty() {
         return Err(EntryFault::BadTable);
@@ -73,11 +73,11 @@ fn push_some_pairs(points: &mut Vec<(Frac, Frac)>, text: &[u8]) -> Result<(), En
 
 // Appends the pairs of numbers in a text to the points, up to the maximum number of points of a table.
 fn push_pairs(points: &mut Vec<(Frac, Frac)>, text: &[u8]) -> Result<(), EntryFault>
-    requires { length points.old.items ≤ spec.most_points }
+    requires { length points.old.items ≤ spec.most_point_pairs }
     ensures { GivesEntry (λ done. points.new.items) result
-        (or_fault EntryFault.BadTable
-        (spec.within_point_limit (option_map (λ pairs. points.old.items ++ pairs)
-        (spec.points_of_words (words_of text.now))))) }
+        (or_entry_fault EntryFault.BadTable
+        (spec.within_point_pair_limit (option_map (λ pairs. points.old.items ++ pairs)
+        (spec.point_pairs_of_words (words_between_blanks text.now))))) }
 {
     let mut rest = trim_front(text);
     while !rest.is_empty() {

@@ -4,8 +4,8 @@ ghost use Rattle.std.specs.Prelude.{◌≡◌};
 ghost use Rattle.std.specs.Option.{option_copied};
 ghost use Rattle.def_entry.specs.Outcomes as outcomes;
 ghost use Rattle.def_entry.specs.EntryReading as spec;
-ghost use Rattle.def_entry.specs.LineViews.{seen_heading, seen_text};
-ghost use Rattle.def_entry.specs.Views.{what_view};
+ghost use Rattle.def_entry.specs.LineViews.{seen_entry_text, seen_heading};
+ghost use Rattle.def_entry.specs.Views.{entry_definition_view};
 
 use crate::cuts::cut_at;
 use crate::entry::{TableDef, What};
@@ -25,7 +25,7 @@ use units_io::Text;
 // Returns the definition in a line, given its heading.
 #[tactic(auto, unfolding(crate::specs::EntryReading::what_of))]
 pub(crate) fn what_of(alloc: Global, heading: &Heading) -> Result<What, EntryFault>
-    ensures { outcomes.GivesEntry what_view result (spec.what_of (seen_heading heading.now)) }
+    ensures { outcomes.GivesEntry entry_definition_view result (spec.what_of (seen_heading heading.now)) }
 {
     check_heading(alloc, heading)?;
     let (name, text) = (heading.name, heading.text);
@@ -40,7 +40,7 @@ pub(crate) fn what_of(alloc: Global, heading: &Heading) -> Result<What, EntryFau
 // Checks that the name of a heading is valid. A list without a name is a bad form.
 fn check_heading(alloc: Global, heading: &Heading) -> Result<(), EntryFault>
     ensures { outcomes.GivesEntry (λ done. heading.now.name.now) result
-        (spec.name_in heading.now.kind heading.now.name.now) }
+        (spec.heading_name_in heading.now.kind heading.now.name.now) }
 {
     match heading.kind {
         Kind::List if heading.name.is_empty() => Err(EntryFault::BadForm),
@@ -50,7 +50,7 @@ fn check_heading(alloc: Global, heading: &Heading) -> Result<(), EntryFault>
 
 // Checks that a word is a valid name.
 pub(crate) fn check_name(alloc: Global, word: &[u8]) -> Result<(), EntryFault>
-    ensures { outcomes.GivesEntry (λ done. word.now) result (outcomes.name_or_fault word.now) }
+    ensures { outcomes.GivesEntry (λ done. word.now) result (outcomes.name_or_entry_fault word.now) }
 {
     if is_name(word) {
         return Ok(());
@@ -60,14 +60,14 @@ pub(crate) fn check_name(alloc: Global, word: &[u8]) -> Result<(), EntryFault>
 
 // Returns the text, or the fault of a bad form if it is empty.
 fn require_text(text: &[u8]) -> Result<&[u8], EntryFault>
-    ensures { outcomes.GivesEntry seen_text result (spec.nonempty_text text.now) }
+    ensures { outcomes.GivesEntry seen_entry_text result (spec.nonempty_entry_text text.now) }
 {
     some_text(text).ok_or(EntryFault::BadForm)
 }
 
 // Returns the definition of a unit.
 fn unit_of(alloc: Global, text: &[u8]) -> Result<What, EntryFault>
-    ensures { outcomes.GivesEntry what_view result (spec.unit_in text.now) }
+    ensures { outcomes.GivesEntry entry_definition_view result (spec.unit_body_in text.now) }
 {
     if text == b"!".as_slice() {
         return Ok(What::Primitive);
@@ -80,7 +80,7 @@ fn unit_of(alloc: Global, text: &[u8]) -> Result<What, EntryFault>
 
 // Returns the definition of a unit or a prefix by an expression.
 fn body_of(alloc: Global, text: &[u8]) -> Result<What, EntryFault>
-    ensures { outcomes.GivesEntry what_view result (spec.body_in text.now) }
+    ensures { outcomes.GivesEntry entry_definition_view result (spec.body_in text.now) }
 {
     let body = require_text(text)?;
     Ok(What::Body(tree_of(alloc, body, None)?))
@@ -88,7 +88,7 @@ fn body_of(alloc: Global, text: &[u8]) -> Result<What, EntryFault>
 
 // Returns a function, whose text starts with `(`, or a table, whose text starts with `[`.
 fn func_of(alloc: Global, name: &[u8], text: &[u8]) -> Result<What, EntryFault>
-    ensures { outcomes.GivesEntry what_view result (spec.func_in name.now text.now) }
+    ensures { outcomes.GivesEntry entry_definition_view result (spec.function_or_table_entry_in name.now text.now) }
 {
     let Some((bracket, inside)) = text.split_first() else {
         return Err(EntryFault::BadForm);
@@ -104,7 +104,8 @@ fn func_of(alloc: Global, name: &[u8], text: &[u8]) -> Result<What, EntryFault>
 
 // Returns a function, given its parameter, which is empty for an alias, and the text after it.
 fn call_of(alloc: Global, name: &[u8], parameter: &[u8], behind: &[u8]) -> Result<What, EntryFault>
-    ensures { outcomes.GivesEntry what_view result (spec.call_in name.now parameter.now behind.now) }
+    ensures { outcomes.GivesEntry entry_definition_view result
+        (spec.function_or_alias_in name.now parameter.now behind.now) }
 {
     if parameter.is_empty() {
         return alias_of(alloc, behind);
@@ -118,7 +119,7 @@ fn call_of(alloc: Global, name: &[u8], parameter: &[u8], behind: &[u8]) -> Resul
 
 // Returns an alias of another function.
 fn alias_of(alloc: Global, text: &[u8]) -> Result<What, EntryFault>
-    ensures { outcomes.GivesEntry what_view result (spec.alias_in text.now) }
+    ensures { outcomes.GivesEntry entry_definition_view result (spec.alias_in text.now) }
 {
     let target = require_text(without_call(trim(text)))?;
     check_name(alloc, target)?;
@@ -138,7 +139,7 @@ fn without_call(text: &[u8]) -> &[u8]
 
 // Returns a table, given its unit and the text after it.
 fn table_of(alloc: Global, text: &[u8], behind: &[u8]) -> Result<What, EntryFault>
-    ensures { outcomes.GivesEntry what_view result (spec.table_in text.now behind.now) }
+    ensures { outcomes.GivesEntry entry_definition_view result (spec.table_entry_in text.now behind.now) }
 {
     let unit = require_text(text)?;
     let points = table_points(alloc, behind)?;
@@ -148,7 +149,7 @@ fn table_of(alloc: Global, text: &[u8], behind: &[u8]) -> Result<What, EntryFaul
 
 // Returns a list, whose parts are separated by `;`.
 fn list_of(alloc: Global, text: &[u8]) -> Result<What, EntryFault>
-    ensures { outcomes.GivesEntry what_view result (spec.list_in text.now) }
+    ensures { outcomes.GivesEntry entry_definition_view result (spec.list_entry_in text.now) }
 {
     let parts = require_text(text)?;
     Ok(What::ListOf(part_trees(alloc, parts)?))

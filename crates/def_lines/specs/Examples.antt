@@ -2,43 +2,47 @@
 -- of the format.
 use Rattle.std.specs.Prelude.{◌≡◌, ℕ, List, [], ◌∷◌, Bool, true, false, codes, map}
 use Rattle.def_lines.specs.declared.line.Line.{Line}
-use Rattle.def_lines.specs.Kinds.{Kind, kind_of, Blank, Definition, Include, Locale, EndLocale, Set, Var, VarNot}
-use Rattle.def_lines.specs.Kinds.{EndVar, Utf8, EndUtf8}
-use Rattle.def_lines.specs.Kinds.{Message, Prompt, UnitList, UnknownDirective, BadDirective}
+use Rattle.def_lines.specs.Kinds.{LineKindWithArguments, kind_of_line, Blank, Definition, Include, Locale, EndLocale}
+use Rattle.def_lines.specs.Kinds.{Set, Var, VarNot, EndVar, Utf8, EndUtf8, Message, Prompt, UnitList, UnknownDirective}
+use Rattle.def_lines.specs.Kinds.{BadDirective}
 use Rattle.def_lines.specs.Lines.{logical_lines}
 use Rattle.def_lines.specs.Words.{is_listed}
 
 -- a line with this number and this text
-abbrev pub line_at : ℕ → List ℕ → Line
-line_at number text = record { number = number; text = text }
+abbrev pub logical_line_at : ℕ → List ℕ → Line
+logical_line_at number text = record { number = number; text = text }
 
 -- files and their lines
-abbrev pub example_files : List (List ℕ × List Line)
-example_files =
+abbrev pub example_logical_lines : List (List ℕ × List Line)
+example_logical_lines =
     (codes "", [])
-    ∷ (codes "\n", line_at 1 [] ∷ [])
-    ∷ (codes "m !", line_at 1 (codes "m !") ∷ [])
-    ∷ (codes "m !\n", line_at 1 (codes "m !") ∷ [])
-    ∷ (codes "m !\ns !\n", line_at 1 (codes "m !") ∷ line_at 2 (codes "s !") ∷ [])
-    ∷ (codes "  m\t! \t\n", line_at 1 (codes "m\t!") ∷ [])
-    ∷ (codes "a 2 \\\n m\nb 3 m\n", line_at 1 (codes "a 2   m") ∷ line_at 3 (codes "b 3 m") ∷ [])
-    ∷ (codes "a \\\n\\\n  2 m\nb", line_at 1 (codes "a     2 m") ∷ line_at 4 (codes "b") ∷ [])
-    ∷ (codes "a 2 m \\", line_at 1 (codes "a 2 m") ∷ [])
-    ∷ (codes "m !\na 2 m \\\n", line_at 1 (codes "m !") ∷ line_at 2 (codes "a 2 m") ∷ [])
-    ∷ (codes "\\", line_at 1 [] ∷ [])
-    ∷ (codes " \\\n \\\n m !", line_at 1 (codes "m !") ∷ [])
-    ∷ (codes "# all\nm ! # metre\n#\n", line_at 1 [] ∷ line_at 2 (codes "m !") ∷ line_at 3 [] ∷ [])
-    ∷ (codes "a 2 \\ # more\nm", line_at 1 (codes "a 2  m") ∷ [])
-    ∷ (codes "a 2 # no \\\nm", line_at 1 (codes "a 2") ∷ line_at 2 (codes "m") ∷ [])
-    ∷ (codes "m !\r\ns !\r", line_at 1 (codes "m !") ∷ line_at 2 (codes "s !") ∷ [])
-    ∷ (codes "a \\\r\n2 m\r\n", line_at 1 (codes "a  2 m") ∷ [])
-    ∷ (codes "m !\r\r\n", line_at 1 (codes "m !\r") ∷ [])
-    ∷ (codes "a # b\r\n\nc", line_at 1 (codes "a") ∷ line_at 2 [] ∷ line_at 3 (codes "c") ∷ [])
+    ∷ (codes "\n", logical_line_at 1 [] ∷ [])
+    ∷ (codes "m !", logical_line_at 1 (codes "m !") ∷ [])
+    ∷ (codes "m !\n", logical_line_at 1 (codes "m !") ∷ [])
+    ∷ (codes "m !\ns !\n", logical_line_at 1 (codes "m !") ∷ logical_line_at 2 (codes "s !") ∷ [])
+    ∷ (codes "  m\t! \t\n", logical_line_at 1 (codes "m\t!") ∷ [])
+    ∷ (codes "a 2 \\\n m\nb 3 m\n", logical_line_at 1 (codes "a 2   m") ∷ logical_line_at 3 (codes "b 3 m") ∷ [])
+    ∷ (codes "a \\\n\\\n  2 m\nb", logical_line_at 1 (codes "a     2 m") ∷ logical_line_at 4 (codes "b") ∷ [])
+    ∷ (codes "a 2 m \\", logical_line_at 1 (codes "a 2 m") ∷ [])
+    ∷ (codes "m !\na 2 m \\\n", logical_line_at 1 (codes "m !") ∷ logical_line_at 2 (codes "a 2 m") ∷ [])
+    ∷ (codes "\\", logical_line_at 1 [] ∷ [])
+    ∷ (codes " \\\n \\\n m !", logical_line_at 1 (codes "m !") ∷ [])
+    ∷ (
+      codes "# all\nm ! # metre\n#\n",
+      logical_line_at 1 [] ∷ logical_line_at 2 (codes "m !") ∷ logical_line_at 3 [] ∷
+          [],
+    )
+    ∷ (codes "a 2 \\ # more\nm", logical_line_at 1 (codes "a 2  m") ∷ [])
+    ∷ (codes "a 2 # no \\\nm", logical_line_at 1 (codes "a 2") ∷ logical_line_at 2 (codes "m") ∷ [])
+    ∷ (codes "m !\r\ns !\r", logical_line_at 1 (codes "m !") ∷ logical_line_at 2 (codes "s !") ∷ [])
+    ∷ (codes "a \\\r\n2 m\r\n", logical_line_at 1 (codes "a  2 m") ∷ [])
+    ∷ (codes "m !\r\r\n", logical_line_at 1 (codes "m !\r") ∷ [])
+    ∷ (codes "a # b\r\n\nc", logical_line_at 1 (codes "a") ∷ logical_line_at 2 [] ∷ logical_line_at 3 (codes "c") ∷ [])
     ∷ []
 
 -- lines and their kinds
-abbrev pub kinds : List (List ℕ × Kind)
-kinds =
+abbrev pub example_line_kinds : List (List ℕ × LineKindWithArguments)
+example_line_kinds =
     (codes "", Blank)
     ∷ (codes " ", Definition)
     ∷ (codes "m !", Definition)
@@ -89,8 +93,8 @@ kinds =
     ∷ []
 
 -- texts and values, and whether the value is one of the words of the text
-abbrev pub listings : List (List ℕ × (List ℕ × Bool))
-listings =
+abbrev pub example_directive_listings : List (List ℕ × (List ℕ × Bool))
+example_directive_listings =
     (codes "big", (codes "big", true))
     ∷ (codes "big small", (codes "small", true))
     ∷ (codes " \tbig\t small  ", (codes "small", true))
@@ -103,14 +107,15 @@ listings =
     ∷ (codes "a b a", (codes "a", true))
     ∷ []
 
--- law: each file has the lines that `example_files` gives it
-abbrev pub LinesLaw : Type 0
-LinesLaw = map (λ file. logical_lines file.0) example_files ≡ map (λ file. file.1) example_files
+-- law: each file has the lines that `example_logical_lines` gives it
+abbrev pub LogicalLinesLaw : Type 0
+LogicalLinesLaw = map (λ file. logical_lines file.0) example_logical_lines ≡ map (λ file. file.1) example_logical_lines
 
--- law: each line has the kind that `kinds` gives it
-abbrev pub KindsLaw : Type 0
-KindsLaw = map (λ line. kind_of line.0) kinds ≡ map (λ line. line.1) kinds
+-- law: each line has the kind that `example_line_kinds` gives it
+abbrev pub LineKindsLaw : Type 0
+LineKindsLaw = map (λ line. kind_of_line line.0) example_line_kinds ≡ map (λ line. line.1) example_line_kinds
 
--- law: each value is listed if and only if `listings` says so
-abbrev pub ListingsLaw : Type 0
-ListingsLaw = map (λ row. is_listed row.0 row.1.0) listings ≡ map (λ row. row.1.1) listings
+-- law: each value is listed if and only if `example_directive_listings` says so
+abbrev pub DirectiveListingsLaw : Type 0
+DirectiveListingsLaw = map (λ row. is_listed row.0 row.1.0) example_directive_listings ≡ map (λ row. row.1.1)
+    example_directive_listings

@@ -2,19 +2,19 @@
 ghost use Rattle.std.specs.Prelude.{◌≡◌, ◌≤◌, length, take};
 ghost use Rattle.std.specs.List as lists;
 ghost use Rattle.units_io.specs.Blanks as blanks;
-ghost use Rattle.def_lines.specs.Blanks.{after_blanks, before_blanks, trim_of};
+ghost use Rattle.def_lines.specs.Blanks.{after_blanks, before_blanks, trimmed_of_blanks};
 
 use units_io::{is_blank, prefix_len};
 
 /// Returns the text without the blanks at both ends.
 pub fn trim(text: &[u8]) -> &[u8]
-    ensures { result.now ≡ trim_of text.now }
+    ensures { result.now ≡ trimmed_of_blanks text.now }
 {
     trim_front(trim_end(text))
 }
 
 /// Returns the text without leading blanks.
-#[tactic(auto, using(crate::proofs::TrimmedTexts::passed_over))]
+#[tactic(auto, using(crate::proofs::TrimmedTexts::leading_blanks_are_passed_over))]
 pub fn trim_front(text: &[u8]) -> &[u8]
     ensures { result.now ≡ after_blanks text.now }
 {
@@ -24,7 +24,7 @@ pub fn trim_front(text: &[u8]) -> &[u8]
 
 // Returns the number of leading blanks.
 fn blank_len(text: &[u8]) -> usize
-    ensures is { result ≡ lists.prefix_len blanks.is_blank text.now }
+    ensures is { result ≡ lists.prefix_len blanks.is_blank_text_byte text.now }
     ensures within { result ≤ length text.now }
 {
     prefix_len(text, |byte| is_blank(byte))

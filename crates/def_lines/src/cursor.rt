@@ -1,9 +1,8 @@
 //! Iteration over the logical lines of a file.
 ghost use Rattle.std.specs.Prelude.{◌≡◌, ◌≤◌, ◌+◌, ◌++◌, ◌∷◌, [], List, IfOk, OnErr, length, map};
 ghost use Rattle.std.specs.Map.Iter.{TakesFirst};
-ghost use Rattle.def_lines.specs.Lines.{lines_behind, logical_lines, nonblank_lines, numbered_lines, physical_lines};
-ghost use Rattle.def_lines.specs.Lines.{with_front};
-ghost use Rattle.def_lines.specs.Lines.{trimmed_line};
+ghost use Rattle.def_lines.specs.Lines.{logical_lines, logical_lines_after, nonblank_lines, numbered_logical_lines};
+ghost use Rattle.def_lines.specs.Lines.{physical_lines, logical_lines_with_front, trimmed_logical_line};
 
 use crate::line::{LentLine, Line};
 use crate::line_list::Lines;
@@ -25,9 +24,9 @@ impl<'a> Model for Cursor<'a> {
 
     ghost Value = { List Line };
 
-    ghost use Rattle.def_lines.specs.Lines.{lines_behind};
+    ghost use Rattle.def_lines.specs.Lines.{logical_lines_after};
 
-    ghost view = { λ cursor. lines_behind cursor.number cursor.rest.now };
+    ghost view = { λ cursor. logical_lines_after cursor.number cursor.rest.now };
 
     ghost invariant = { λ cursor. cursor.number + length cursor.rest.now ≤ 16777216 };
 }
@@ -118,9 +117,10 @@ fn join_lines<'a>(
     bytes: &'a [u8],
 ) -> Result<Joined<'a>, AllocError>
     requires { number + length bytes.now ≤ 16777216 }
-    ensures lines { IfOk result (λ taken. taken.line ∷ lines_behind taken.number taken.behind.now
-        ≡ map trimmed_line
-        (with_front number (start.now ++ 32 ∷ []) (numbered_lines (number + 1) (physical_lines bytes.now)))) }
+    ensures lines { IfOk result (λ taken. taken.line ∷ logical_lines_after taken.number taken.behind.now
+        ≡ map trimmed_logical_line
+        (logical_lines_with_front number (start.now ++ 32 ∷ [])
+        (numbered_logical_lines (number + 1) (physical_lines bytes.now)))) }
     ensures few { IfOk result (λ taken. taken.number + length taken.behind.now ≤ number + length bytes.now) }
 {
     let mut part = Part::new(alloc, number);

@@ -2,8 +2,8 @@
 
 ghost use Rattle.std.specs.Prelude.{◌≡◌, true};
 ghost use Rattle.def_lines.specs.Kinds as spec;
-ghost use Rattle.def_lines.specs.Parts.{takes_rest};
-ghost use Rattle.def_lines.specs.KindView.{seen_kind};
+ghost use Rattle.def_lines.specs.Parts.{directive_takes_rest};
+ghost use Rattle.def_lines.specs.KindView.{seen_line_kind};
 
 use crate::blanks::trim_front;
 use crate::directive::{Directive, directive_of};
@@ -49,9 +49,9 @@ pub enum LineKind<'a> {
 /// Returns the kind of a line, which need not be trimmed: `Blank` if it is empty, and `Definition` if it does not
 /// start with `!`. Blanks after a `!` are skipped, and the first word selects the directive. The kind is
 /// `UnknownDirective` if there is no such directive, and `BadDirective` if its arguments are not those that it takes.
-#[tactic(auto, unfolding(crate::specs::Kinds::kind_of))]
+#[tactic(auto, unfolding(crate::specs::Kinds::kind_of_line))]
 pub fn classify(line: &[u8]) -> LineKind<'_>
-    ensures { seen_kind result ≡ spec.kind_of line.now }
+    ensures { seen_line_kind result ≡ spec.kind_of_line line.now }
 {
     let Some((first, behind)) = line.split_first() else {
         return LineKind::Blank;
@@ -68,7 +68,7 @@ pub fn classify(line: &[u8]) -> LineKind<'_>
 
 // Returns the kind of a directive with the rest of its line.
 fn with_arguments(directive: Directive, rest: &[u8]) -> LineKind<'_>
-    ensures { seen_kind result ≡ spec.with_arguments directive rest.now }
+    ensures { seen_line_kind result ≡ spec.with_arguments directive rest.now }
 {
     match directive {
         Directive::Include if is_word(rest) => LineKind::Include(rest),
@@ -87,8 +87,8 @@ fn with_arguments(directive: Directive, rest: &[u8]) -> LineKind<'_>
 
 // Returns the kind of a directive that takes a word and at least one more after it.
 fn with_rest(directive: Directive, rest: &[u8]) -> LineKind<'_>
-    requires { takes_rest directive ≡ true }
-    ensures { seen_kind result ≡ spec.with_arguments directive rest.now }
+    requires { directive_takes_rest directive ≡ true }
+    ensures { seen_line_kind result ≡ spec.with_arguments directive rest.now }
 {
     let (word, values) = split_word(rest);
     if values.is_empty() {

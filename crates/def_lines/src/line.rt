@@ -1,6 +1,6 @@
 //! A logical line.
 ghost use Rattle.std.specs.Prelude.{◌≡◌, IfOk};
-ghost use Rattle.def_lines.specs.Blanks.{trim_of};
+ghost use Rattle.def_lines.specs.Blanks.{trimmed_of_blanks};
 
 use crate::blanks::trim;
 use std::alloc::{AllocError, Global};
@@ -36,7 +36,7 @@ impl<'a> Model for LentLine<'a> {
 impl<'a> LentLine<'a> {
     // Creates a line from a single physical line.
     pub(crate) fn of_physical_line(number: u32, text: &'a [u8]) -> LentLine<'a>
-        ensures { result ≡ record { number = number; text = trim_of text.now } }
+        ensures { result ≡ record { number = number; text = trimmed_of_blanks text.now } }
     {
         LentLine {
             number,

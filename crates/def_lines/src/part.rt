@@ -1,9 +1,9 @@
 //! The first part of a logical line that continues.
 ghost use Rattle.std.specs.Prelude.{◌≡◌, ◌++◌, ◌∷◌, [], List, ℕ, IfOk, OnOk, map, true};
 ghost use Rattle.def_lines.specs.declared.line.Line as line_spec;
-ghost use Rattle.def_lines.specs.Blanks.{trim_of};
-ghost use Rattle.def_lines.specs.Lines.{trimmed_line, with_front};
-ghost use Rattle.def_lines.specs.Parts.{is_begun};
+ghost use Rattle.def_lines.specs.Blanks.{trimmed_of_blanks};
+ghost use Rattle.def_lines.specs.Lines.{logical_lines_with_front, trimmed_logical_line};
+ghost use Rattle.def_lines.specs.Parts.{begins_without_blank};
 
 use crate::blanks::{kept_len, trim_front};
 use crate::line::Line;
@@ -15,7 +15,7 @@ use units_io::Text;
 pub(crate) struct Part {
     pub(crate) number: u32,
     pub(crate) text: Vec<u8>,
-    ghost begun: { is_begun text.items ≡ true },
+    ghost begun: { begins_without_blank text.items ≡ true },
 }
 
 impl Part {
@@ -33,8 +33,8 @@ impl Part {
     // Appends bytes.
     fn put_bytes(&mut self, bytes: &[u8]) -> Result<(), AllocError>
         ensures number { self.new.number ≡ self.old.number }
-        ensures text { OnOk result ((behind : List ℕ) → trim_of (self.new.text.items ++ behind)
-            ≡ trim_of (self.old.text.items ++ (bytes.now ++ behind))) }
+        ensures text { OnOk result ((behind : List ℕ) → trimmed_of_blanks (self.new.text.items ++ behind)
+            ≡ trimmed_of_blanks (self.old.text.items ++ (bytes.now ++ behind))) }
     {
         if self.text.as_slice().is_empty() {
             self.text.extend_from_slice(trim_front(bytes))
@@ -46,9 +46,10 @@ impl Part {
     // Appends the text before a `\`, and a space in place of the `\`.
     pub(crate) fn go_on(&mut self, start: &[u8]) -> Result<(), AllocError>
         ensures { OnOk result ((number : ℕ) (more : List line_spec.Line) →
-            map trimmed_line (with_front self.new.number self.new.text.items more)
-            ≡ map trimmed_line
-            (with_front self.old.number self.old.text.items (with_front number (start.now ++ 32 ∷ []) more))) }
+            map trimmed_logical_line (logical_lines_with_front self.new.number self.new.text.items more)
+            ≡ map trimmed_logical_line
+            (logical_lines_with_front self.old.number self.old.text.items
+            (logical_lines_with_front number (start.now ++ 32 ∷ []) more))) }
     {
         self.put_bytes(start)?;
         self.put_bytes(b" ")
@@ -57,7 +58,7 @@ impl Part {
     // Returns the line, if no text follows.
     pub(crate) fn complete(self) -> Line
         ensures number { result.number ≡ self.number }
-        ensures text { result.text ≡ trim_of self.text.items }
+        ensures text { result.text ≡ trimmed_of_blanks self.text.items }
     {
         let Part { number, mut text } = self;
         text.truncate(kept_len(text.as_slice()));
@@ -69,9 +70,10 @@ impl Part {
 
     // Appends the bytes that end the line, and returns the line.
     pub(crate) fn end_line(mut self, bytes: &[u8]) -> Result<Line, AllocError>
-        ensures { IfOk result (λ line. (number : ℕ) (more : List line_spec.Line) → line ∷ map trimmed_line more
-            ≡ map trimmed_line
-            (with_front self.number self.text.items (record { number = number; text = bytes.now } ∷ more))) }
+        ensures { IfOk result (λ line. (number : ℕ) (more : List line_spec.Line) → line ∷ map trimmed_logical_line more
+            ≡ map trimmed_logical_line
+            (logical_lines_with_front self.number self.text.items
+            (record { number = number; text = bytes.now } ∷ more))) }
     {
         self.put_bytes(bytes)?;
         Ok(self.complete())

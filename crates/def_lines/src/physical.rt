@@ -42,8 +42,8 @@ pub fn line_content(line: &[u8]) -> &[u8]
 // Returns the text without its last byte if that byte is this one, and `None` otherwise.
 pub(crate) fn strip_last(text: &[u8], byte: u8) -> Option<&[u8]>
     ensures { MatchOption result
-        (spec.ends_with byte text.now ≡ false)
-        (λ rest. (spec.ends_with byte text.now ≡ true) × (rest.now ≡ spec.front_of_line text.now)) }
+        (spec.line_ends_with byte text.now ≡ false)
+        (λ rest. (spec.line_ends_with byte text.now ≡ true) × (rest.now ≡ spec.line_without_last_byte text.now)) }
 {
     match text.split_last() {
         Some((last, rest)) if *last == byte => Some(rest),

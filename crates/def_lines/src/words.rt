@@ -10,8 +10,8 @@ use units_io::{is_blank, prefix_len};
 
 /// Returns the text before the first blank, or all of it if there is none, and the text after that, trimmed.
 pub fn split_word(text: &[u8]) -> (&[u8], &[u8])
-    ensures word { result.0.now ≡ spec.first_word text.now }
-    ensures behind { result.1.now ≡ spec.behind_word text.now }
+    ensures word { result.0.now ≡ spec.first_word_before_blank text.now }
+    ensures behind { result.1.now ≡ spec.after_word_trimmed_of_blanks text.now }
 {
     let (word, behind) = text.split_at(word_len(text));
     (word, trim(behind))
@@ -20,8 +20,8 @@ pub fn split_word(text: &[u8]) -> (&[u8], &[u8])
 /// Returns the text before the first blank, or all of it if there is none, and the text after that, without leading
 /// blanks.
 pub fn cut_word(text: &[u8]) -> (&[u8], &[u8])
-    ensures word { result.0.now ≡ spec.first_word text.now }
-    ensures behind { result.1.now ≡ spec.after_word text.now }
+    ensures word { result.0.now ≡ spec.first_word_before_blank text.now }
+    ensures behind { result.1.now ≡ spec.after_word_and_blanks text.now }
 {
     let (word, behind) = text.split_at(word_len(text));
     (word, trim_front(behind))
@@ -51,14 +51,14 @@ pub(crate) fn is_word(text: &[u8]) -> bool
 
 // Reports whether the bytes contain a blank.
 fn has_blank(text: &[u8]) -> bool
-    ensures { result ≡ list_any blanks.is_blank text.now }
+    ensures { result ≡ list_any blanks.is_blank_text_byte text.now }
 {
     text.iter().any(|byte| is_blank(*byte))
 }
 
 // Returns the index of the first blank, or the length if there is none.
 fn word_len(text: &[u8]) -> usize
-    ensures is { result ≡ position_or_len blanks.is_blank text.now }
+    ensures is { result ≡ position_or_len blanks.is_blank_text_byte text.now }
     ensures within { result ≤ length text.now }
 {
     prefix_len(text, |byte| !is_blank(byte))

@@ -1,32 +1,40 @@
 -- The invariants of the two rounding loops, and the proof that the loops end with the rounded number.
 use Rattle.std.proofs.Common.{◌≡◌, ◌<◌, ◌≤◌, ◌+◌, ◌-◌, ◌*◌, ◌/◌, ◌%◌, ◌^◌, ◌-ℤ◌, ℕ, ℤ, pos, neg_ℤ, suc, zero, arith}
-use Rattle.std.proofs.Common.{refl, sym, ap, subst}
-use Rattle.std.proofs.Common.{◌∙◌, lit<, inl, inr}
+use Rattle.std.proofs.Common.{refl, sym, ap, subst, ◌∙◌, lit<, inl, inr}
 use Rattle.std.specs.Ordering.{nat_cmp}
 use Rattle.std.proofs.lemmas.Bool.{cases_lt}
 use Rattle.std.proofs.lemmas.Nat.{div-mul-add, le-div, mod_below, mod-mul-add, mul-le}
 use Rattle.std.proofs.Math.Nat.{div-add-mod, mul-pos, pow-succ'}
-use Rattle.frac128.specs.Nearest.{by_half}
-use Rattle.digits_print.specs.Nearest.{down, up}
-use Rattle.digits_print.specs.RatioRounding.{carry_of, first_power, rounded_at, rounding_of}
-use Rattle.digits_print.proofs.Scales.{IsScaled, scale_unique, scaled, ten_before, ten_some, ten_up}
+use Rattle.frac128.specs.Nearest.{whole_by_fraction_part}
+use Rattle.digits_print.specs.Nearest.{decimal_scale_denominator, decimal_scale_numerator}
+use Rattle.digits_print.specs.RatioRounding.{digits_rounding, power_of_first_digit, rounded_at_scale, rounding_carry}
+use Rattle.digits_print.proofs.Scales.{IsScaled, decimal_scale_unique, digit_power_before, digit_power_some}
+use Rattle.digits_print.proofs.Scales.{digit_power_up, rounding_digit_scale}
 
 -- at a scale at which the ratio has n digits before the point, rounding is determined by the quotient and the
 -- remainder
-rounded_by : (n a b q r : ℕ) (s : ℤ) → 0 < n → 0 < a → 0 < b → q * (b * up s) + r ≡ a * down s → r < b * up s
+rounding_by_remainder : (n a b q r : ℕ) (s : ℤ) → 0 < n → 0 < a → 0 < b
+    → q * (b * decimal_scale_numerator s) + r ≡ a * decimal_scale_denominator s → r < b * decimal_scale_numerator s
     → 10 ^ (n - 1) ≤ q
     → q < 10 ^ n
-    → carry_of n (by_half q (nat_cmp (2 * r) (b * up s))) s ≡ rounding_of n a b
-unfolding rounding_of rounded_at
-rounded_by n a b q r s some some_a some_b whole part low high =
-    let quotient : a * down s / (b * up s) ≡ q = ap (λ v. v / (b * up s)) (sym whole)
-    ∙ div-mul-add q (b * up s) r part in
-    let rest : a * down s % (b * up s) ≡ r = ap (λ v. v % (b * up s)) (sym whole) ∙ mod-mul-add q (b * up s) r part in
-    let same : s ≡ first_power a b -ℤ pos (n - 1) =
-    scale_unique n a b s _ some_b at (scaled n a b some some_a some_b) in
-    sym (ap (λ v. carry_of n (by_half v (nat_cmp (2 * (a * down s % (b * up s))) (b * up s))) s) quotient
-    ∙ ap (λ v. carry_of n (by_half q (nat_cmp (2 * v) (b * up s))) s) rest)
-    ∙ ap (rounded_at n a b) same
+    → rounding_carry n (whole_by_fraction_part q (nat_cmp (2 * r) (b * decimal_scale_numerator s))) s ≡ digits_rounding
+    n a b
+unfolding digits_rounding rounded_at_scale
+rounding_by_remainder n a b q r s some some_a some_b whole part low high =
+    let quotient : a * decimal_scale_denominator s / (b * decimal_scale_numerator s) ≡ q =
+    ap (λ v. v / (b * decimal_scale_numerator s)) (sym whole)
+    ∙ div-mul-add q (b * decimal_scale_numerator s) r part in
+    let rest : a * decimal_scale_denominator s % (b * decimal_scale_numerator s) ≡ r =
+    ap (λ v. v % (b * decimal_scale_numerator s)) (sym whole) ∙ mod-mul-add q (b * decimal_scale_numerator s) r part
+    in
+    let same : s ≡ power_of_first_digit a b -ℤ pos (n - 1) =
+    decimal_scale_unique n a b s _ some_b at (rounding_digit_scale n a b some some_a some_b) in
+    sym (ap (λ v. rounding_carry n
+    (whole_by_fraction_part v
+    (nat_cmp (2 * (a * decimal_scale_denominator s % (b * decimal_scale_numerator s)))
+    (b * decimal_scale_numerator s))) s) quotient
+    ∙ ap (λ v. rounding_carry n (whole_by_fraction_part q (nat_cmp (2 * v) (b * decimal_scale_numerator s))) s) rest)
+    ∙ ap (rounded_at_scale n a b) same
   where
     low_of : (l q b r a : ℕ) → q * b + r ≡ a → l ≤ q → l * b ≤ a
     low_of l q b r a e h = let times : l * b ≤ q * b = mul-le l b q b h (omega arith) in omega arith
@@ -38,8 +46,8 @@ rounded_by n a b q r s some some_a some_b whole part low high =
 
     at : IsScaled n a b s
     at = record {
-      low = low_of (10 ^ (n - 1)) q (b * up s) r (a * down s) whole low;
-      high = high_of (10 ^ n) q (b * up s) r (a * down s) whole part high;
+      low = low_of (10 ^ (n - 1)) q (b * decimal_scale_numerator s) r (a * decimal_scale_denominator s) whole low;
+      high = high_of (10 ^ n) q (b * decimal_scale_numerator s) r (a * decimal_scale_denominator s) whole part high;
     }
 
 -- top over bottom, with this many places after the point, is the number and a remainder
@@ -49,15 +57,15 @@ pub record IsLengthened (n top bottom number rest places : ℕ) : Type 0 where
   pub below : number < 10 ^ n
 
 -- one more digit of the remainder makes the number one place longer
-pub lengthened_more : (n top bottom number rest places digit next : ℕ) → 0 < n
+pub lengthened_digits_more : (n top bottom number rest places digit next : ℕ) → 0 < n
     → IsLengthened n top bottom number rest places
     → number < 10 ^ (n - 1)
     → digit * bottom + next ≡ 10 * rest → next < bottom → digit < 10
     → IsLengthened n top bottom (number * 10 + digit) next (places + 1)
-lengthened_more n top bottom number rest places digit next some is few e part small = record {
+lengthened_digits_more n top bottom number rest places digit next some is few e part small = record {
   value = value number bottom rest top digit next (10 ^ places) (10 ^ (places + 1)) is.value e (power places);
   part = part;
-  below = omega (arith, ten_before n some);
+  below = omega (arith, digit_power_before n some);
 }
   where
     power : (p : ℕ) → 10 ^ (p + 1) ≡ 10 * 10 ^ p
@@ -71,9 +79,9 @@ lengthened_more n top bottom number rest places digit next some is few e part sm
         turn t p = omega arith
 
 -- top times this power of ten is below the limit, since the number is
-pub lengthened_low : (n top bottom number rest places : ℕ) → IsLengthened n top bottom number rest places
+pub lengthened_digits_low : (n top bottom number rest places : ℕ) → IsLengthened n top bottom number rest places
     → top * 10 ^ places < 10 ^ n * bottom
-lengthened_low n top bottom number rest places is =
+lengthened_digits_low n top bottom number rest places is =
     low number bottom rest (top * 10 ^ places) (10 ^ n) is.value is.part is.below
   where
     low : (q b r t l : ℕ) → q * b + r ≡ t → r < b → q < l → t < l * b
@@ -82,29 +90,30 @@ lengthened_low n top bottom number rest places is =
         omega arith in omega arith
 
 -- the loop adds at most 74 places
-pub few_places : (n top bottom number rest places : ℕ) → 0 < top → bottom ≤ 2 ^ 127 → n ≤ 36
+pub few_decimal_places : (n top bottom number rest places : ℕ) → 0 < top → bottom ≤ 2 ^ 127 → n ≤ 36
     → IsLengthened n top bottom number rest places → places < 75
-few_places n top bottom number rest places some fits most is = elim (cases_lt places 75) [
+few_decimal_places n top bottom number rest places some fits most is = elim (cases_lt places 75) [
   | inl h ↦ h
   | inr h ↦ absurd (many h)
 ]
   where
     many : 75 ≤ places → ⊥
     many h =
-        let low = lengthened_low n top bottom number rest places is in
-        let power : 10 ^ 75 ≤ 10 ^ places = ten_up 75 places h in
+        let low = lengthened_digits_low n top bottom number rest places is in
+        let power : 10 ^ 75 ≤ 10 ^ places = digit_power_up 75 places h in
         let times : 1 * 10 ^ places ≤ top * 10 ^ places = mul-le 1 (10 ^ places) top (10 ^ places) some (omega arith) in
-        let limit : 10 ^ n ≤ 10 ^ 36 = ten_up n 36 most in
+        let limit : 10 ^ n ≤ 10 ^ 36 = digit_power_up n 36 most in
         let wide : 10 ^ n * bottom ≤ 10 ^ 36 * 2 ^ 127 = mul-le (10 ^ n) bottom (10 ^ 36) (2 ^ 127) limit fits in
         let big : 10 ^ 36 * 2 ^ 127 < 10 ^ 75 = lit< tt in
         omega arith
 
 -- the measure decreases with each place
-pub lengthened_less : (n top bottom number rest places : ℕ) → 0 < top → IsLengthened n top bottom number rest places
+pub lengthened_digits_less : (n top bottom number rest places : ℕ) → 0 < top
+    → IsLengthened n top bottom number rest places
     → 10 ^ n * bottom - top * 10 ^ (places + 1) < 10 ^ n * bottom - top * 10 ^ places
-lengthened_less n top bottom number rest places some is =
-    let low = lengthened_low n top bottom number rest places is in
-    let some_top = mul-pos some (ten_some places) in
+lengthened_digits_less n top bottom number rest places some is =
+    let low = lengthened_digits_low n top bottom number rest places is in
+    let some_top = mul-pos some (digit_power_some places) in
     let next : top * 10 ^ (places + 1) ≡ 10 * (top * 10 ^ places) = ap (λ v. top * v) (power places)
     ∙ turn top (10 ^ places) in
     omega arith
@@ -116,29 +125,30 @@ lengthened_less n top bottom number rest places some is =
     turn t p = omega arith
 
 -- a number with n digits is rounded by its remainder
-pub lengthened_end : (n top bottom number rest places : ℕ) → 0 < n → 0 < top
+pub lengthened_digits_end : (n top bottom number rest places : ℕ) → 0 < n → 0 < top
     → IsLengthened n top bottom number rest places
     → 10 ^ (n - 1) ≤ number
-    → carry_of n (by_half number (nat_cmp (rest * 2) bottom)) (neg_ℤ (pos places)) ≡ rounding_of n top bottom
-lengthened_end n top bottom number rest places some some_top is least =
-    ap (λ v. carry_of n (by_half number (nat_cmp v bottom)) (neg_ℤ (pos places))) twice
-    ∙ ap (λ v. carry_of n (by_half number (nat_cmp (2 * rest) v)) (neg_ℤ (pos places))) (sym step)
-    ∙ rounded_by n top bottom number rest (neg_ℤ (pos places)) some some_top (omega (arith, is.part))
+    → rounding_carry n (whole_by_fraction_part number (nat_cmp (rest * 2) bottom))
+    (neg_ℤ (pos places)) ≡ digits_rounding n top bottom
+lengthened_digits_end n top bottom number rest places some some_top is least =
+    ap (λ v. rounding_carry n (whole_by_fraction_part number (nat_cmp v bottom)) (neg_ℤ (pos places))) twice
+    ∙ ap (λ v. rounding_carry n (whole_by_fraction_part number (nat_cmp (2 * rest) v)) (neg_ℤ (pos places))) (sym step)
+    ∙ rounding_by_remainder n top bottom number rest (neg_ℤ (pos places)) some some_top (omega (arith, is.part))
     (ap (λ v. number * v + rest) step ∙ is.value ∙ ap (λ v. top * v) (sym (down_is places)))
     (rw step is.part) least is.below
   where
     twice : rest * 2 ≡ 2 * rest
     twice = omega arith
 
-    up_is : (p : ℕ) → up (neg_ℤ (pos p)) ≡ 1
+    up_is : (p : ℕ) → decimal_scale_numerator (neg_ℤ (pos p)) ≡ 1
     up_is zero = refl
     up_is (suc p) = refl
 
-    down_is : (p : ℕ) → down (neg_ℤ (pos p)) ≡ 10 ^ p
+    down_is : (p : ℕ) → decimal_scale_denominator (neg_ℤ (pos p)) ≡ 10 ^ p
     down_is zero = refl
     down_is (suc p) = refl
 
-    step : bottom * up (neg_ℤ (pos places)) ≡ bottom
+    step : bottom * decimal_scale_numerator (neg_ℤ (pos places)) ≡ bottom
     step = ap (λ v. bottom * v) (up_is places) ∙ one bottom
       where
         one : (b : ℕ) → b * 1 ≡ b
@@ -151,10 +161,11 @@ pub record IsShortened (n whole unit places : ℕ) : Type 0 where
   pub least : 10 ^ (n - 1) ≤ whole / unit
 
 -- the unit is at most a tenth of the whole number if more than n digits are left
-pub shortened_wide : (n whole unit : ℕ) → 0 < n → 0 < unit → 10 ^ n ≤ whole / unit → 10 ^ (n - 1) * (unit * 10) ≤ whole
-shortened_wide n whole unit some some_unit high =
+pub shortened_digits_wide : (n whole unit : ℕ) → 0 < n → 0 < unit → 10 ^ n ≤ whole / unit
+    → 10 ^ (n - 1) * (unit * 10) ≤ whole
+shortened_digits_wide n whole unit some some_unit high =
     let times : 10 ^ n * unit ≤ whole / unit * unit = mul-le (10 ^ n) unit (whole / unit) unit high (omega arith) in
-    let turned : 10 ^ n * unit ≡ 10 ^ (n - 1) * (unit * 10) = ap (λ v. v * unit) (ten_before n some)
+    let turned : 10 ^ n * unit ≡ 10 ^ (n - 1) * (unit * 10) = ap (λ v. v * unit) (digit_power_before n some)
     ∙ turn (10 ^ (n - 1)) unit in
     let below : unit * (whole / unit) + whole % unit ≡ whole = div-add-mod whole unit in
     let swap : whole / unit * unit ≡ unit * (whole / unit) = omega arith in
@@ -164,27 +175,28 @@ shortened_wide n whole unit some some_unit high =
     turn p u = omega arith
 
 -- the unit of a cut is above 0
-pub unit_some : (n whole unit places : ℕ) → IsShortened n whole unit places → 0 < unit
-unit_some n whole unit places is = rw is.power (ten_some places)
+pub digit_unit_some : (n whole unit places : ℕ) → IsShortened n whole unit places → 0 < unit
+digit_unit_some n whole unit places is = rw is.power (digit_power_some places)
 
 -- if the rest is still too long, ten times the unit is at most the whole number
-pub shortened_room : (n whole unit places : ℕ) → 0 < n → IsShortened n whole unit places → 10 ^ n ≤ whole / unit
+pub shortened_digits_room : (n whole unit places : ℕ) → 0 < n → IsShortened n whole unit places → 10 ^ n ≤ whole / unit
     → unit * 10 ≤ whole
-shortened_room n whole unit places some is high =
-    let wide = shortened_wide n whole unit some (unit_some n whole unit places is) high in
+shortened_digits_room n whole unit places some is high =
+    let wide = shortened_digits_wide n whole unit some (digit_unit_some n whole unit places is) high in
     let times : 1 * (unit * 10) ≤ 10 ^ (n - 1) * (unit * 10) =
-    mul-le 1 (unit * 10) (10 ^ (n - 1)) (unit * 10) (ten_some (n - 1)) (omega arith) in
+    mul-le 1 (unit * 10) (10 ^ (n - 1)) (unit * 10) (digit_power_some (n - 1)) (omega arith) in
     omega arith
 
 -- if the rest is still too long, one more place is cut off
-pub shortened_more : (n whole unit places : ℕ) → 0 < n → IsShortened n whole unit places → 10 ^ n ≤ whole / unit
+pub shortened_digits_more : (n whole unit places : ℕ) → 0 < n → IsShortened n whole unit places → 10 ^ n ≤ whole / unit
     → IsShortened n whole (unit * 10) (places + 1)
-shortened_more n whole unit places some is high =
-    let some_unit = unit_some n whole unit places is in
+shortened_digits_more n whole unit places some is high =
+    let some_unit = digit_unit_some n whole unit places is in
     record {
       power = ap (λ v. v * 10) is.power ∙ power places;
       some = omega arith;
-      least = le-div (10 ^ (n - 1)) whole (unit * 10) (omega arith) (shortened_wide n whole unit some some_unit high);
+      least = le-div (10 ^ (n - 1)) whole (unit * 10) (omega arith)
+          (shortened_digits_wide n whole unit some some_unit high);
     }
   where
     power : (p : ℕ) → 10 ^ p * 10 ≡ 10 ^ (p + 1)
@@ -192,17 +204,17 @@ shortened_more n whole unit places some is high =
         ap (λ v. 10 ^ v) more in omega arith
 
 -- at most 38 places are cut off
-pub few_cut : (n whole unit places : ℕ) → whole < 2 ^ 128 → IsShortened n whole unit places → places < 39
-few_cut n whole unit places fits is = elim (cases_lt places 39) [
+pub few_digits_cut : (n whole unit places : ℕ) → whole < 2 ^ 128 → IsShortened n whole unit places → places < 39
+few_digits_cut n whole unit places fits is = elim (cases_lt places 39) [
   | inl h ↦ h
   | inr h ↦ absurd (many h)
 ]
   where
     many : 39 ≤ places → ⊥
     many h =
-        let power : 10 ^ 39 ≤ 10 ^ places = ten_up 39 places h in
+        let power : 10 ^ 39 ≤ 10 ^ places = digit_power_up 39 places h in
         let big : 2 ^ 128 < 10 ^ 39 = lit< tt in
-        let some = ten_some (n - 1) in
+        let some = digit_power_some (n - 1) in
         let times : 1 * unit ≤ whole / unit * unit =
         mul-le 1 unit (whole / unit) unit (omega (arith, is.least)) (omega arith) in
         let below : unit * (whole / unit) + whole % unit ≡ whole = div-add-mod whole unit in
@@ -210,17 +222,19 @@ few_cut n whole unit places fits is = elim (cases_lt places 39) [
         omega (arith, is.power)
 
 -- half of the unit is a whole number
-pub unit_even : (n whole unit places : ℕ) → IsShortened n whole unit places → 2 * (unit / 2) ≡ unit
-unit_even n whole unit places is = let ten = ten_before places is.some in let power = is.power in omega arith
+pub digit_unit_even : (n whole unit places : ℕ) → IsShortened n whole unit places → 2 * (unit / 2) ≡ unit
+digit_unit_even n whole unit places is = let ten = digit_power_before places is.some in let power = is.power in
+    omega arith
 
 -- a number with n digits is rounded by the part that is cut off
-pub shortened_end : (n top bottom unit places : ℕ) → 0 < n → 0 < bottom → IsShortened n (top / bottom) unit places
+pub shortened_digits_end : (n top bottom unit places : ℕ) → 0 < n → 0 < bottom
+    → IsShortened n (top / bottom) unit places
     → top / bottom / unit < 10 ^ n
-    → carry_of n (by_half (top / bottom / unit)
-    (nat_cmp (2 * (top / bottom % unit * bottom + top % bottom)) (bottom * unit))) (pos places) ≡ rounding_of n top
+    → rounding_carry n (whole_by_fraction_part (top / bottom / unit)
+    (nat_cmp (2 * (top / bottom % unit * bottom + top % bottom)) (bottom * unit))) (pos places) ≡ digits_rounding n top
     bottom
-shortened_end n top bottom unit places some some_bottom is below =
-    let some_unit = unit_some n (top / bottom) unit places is in
+shortened_digits_end n top bottom unit places some some_bottom is below =
+    let some_unit = digit_unit_some n (top / bottom) unit places is in
     let whole : bottom * (top / bottom) + top % bottom ≡ top = div-add-mod top bottom in
     let digits : unit * (top / bottom / unit) + top / bottom % unit ≡ top / bottom = div-add-mod (top / bottom) unit in
     let q = top / bottom / unit in
@@ -230,8 +244,8 @@ shortened_end n top bottom unit places some some_bottom is below =
     let less : r < bottom * unit =
     less_of unit (top / bottom % unit) bottom (top % bottom) (mod_below (top / bottom) unit some_unit)
     (mod_below top bottom some_bottom) in
-    ap (λ v. carry_of n (by_half q (nat_cmp (2 * r) (bottom * v))) (pos places)) is.power
-    ∙ rounded_by n top bottom q r (pos places) some
+    ap (λ v. rounding_carry n (whole_by_fraction_part q (nat_cmp (2 * r) (bottom * v))) (pos places)) is.power
+    ∙ rounding_by_remainder n top bottom q r (pos places) some
     (some_top (top / bottom) (some_whole n (top / bottom) unit places is) whole) some_bottom
     (ap (λ v. q * (bottom * v) + r) (sym is.power) ∙ value ∙ one top)
     (subst (λ v. r < bottom * v) is.power less) is.least below
@@ -257,7 +271,7 @@ shortened_end n top bottom unit places some some_bottom is below =
 
     some_whole : (n whole unit places : ℕ) → IsShortened n whole unit places → 0 < whole
     some_whole n whole unit places is =
-        positive whole unit (omega (arith, is.least, ten_some (n - 1))) (unit_some n whole unit places is)
+        positive whole unit (omega (arith, is.least, digit_power_some (n - 1))) (digit_unit_some n whole unit places is)
 
     some_top : (w : ℕ) → 0 < w → bottom * w + top % bottom ≡ top → 0 < top
     some_top w some_w e = let product = mul-pos some_bottom some_w in omega arith

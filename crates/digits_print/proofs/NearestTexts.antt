@@ -5,16 +5,17 @@ use Rattle.std.specs.Prelude.{◌==◌}
 use Rattle.std.proofs.lemmas.Bool.Decides.{nat_tests}
 use Rattle.frac128.specs.Fraction.{Fraction, IsFrac}
 use Rattle.digits_print.specs.Digits.{IsDigitsText, IsNearestText, digits_text}
-use Rattle.digits_print.specs.RatioRounding.{NearestLaw, rounding_of}
+use Rattle.digits_print.specs.RatioRounding.{NearestDecimalLaw, digits_rounding}
 
 -- the computed text is that of the nearest decimal
-pub nearest_text : NearestLaw → (x : Fraction) (n : ℕ) (text : List ℕ) → IsFrac x → 1 ≤ n → text ≡ digits_text x n
+pub nearest_decimal_text : NearestDecimalLaw → (x : Fraction) (n : ℕ) (text : List ℕ) → IsFrac x → 1 ≤ n
+    → text ≡ digits_text x n
     → IsDigitsText x n text
-nearest_text law x n text kept some is = by_num x.num refl is
+nearest_decimal_text law x n text kept some is = by_num x.num refl is
   where
     nearest : (m : ℕ) → unsigned_abs x.num ≡ suc m → text ≡ digits_text x n → IsNearestText x n text
     nearest m e is = record {
-      decimal = rounding_of n (unsigned_abs x.num) x.den;
+      decimal = digits_rounding n (unsigned_abs x.num) x.den;
       nearest = (law n (unsigned_abs x.num) x.den (omega arith) (omega arith) kept.lowest_terms.den_positive).0;
       decimal_spelled = is ∙ rw (ap (λ k. k == 0) e ∙ other m) refl;
     }

@@ -4,24 +4,24 @@ use Rattle.std.specs.Int.{abs_diff}
 use Rattle.std.proofs.lemmas.Bool.{cases_lt}
 
 -- multiplying by a factor above 0 preserves strict order
-pub scaled_lt : (m n d : ℕ) → m < n → 0 < d → m * d < n * d
-scaled_lt m n d h some = grind arith
+pub scaled_digits_lt : (m n d : ℕ) → m < n → 0 < d → m * d < n * d
+scaled_digits_lt m n d h some = grind arith
 
 -- cancelling a factor above 0 preserves order
-pub cancelled_le : (m n d : ℕ) → 0 < d → m * d ≤ n * d → m ≤ n
-cancelled_le m n d some h = grind arith
+pub cancelled_digits_le : (m n d : ℕ) → 0 < d → m * d ≤ n * d → m ≤ n
+cancelled_digits_le m n d some h = grind arith
 
 -- the distance from x to x + z is z
-abs_diff_up : (x z : ℕ) → abs_diff x (x + z) ≡ z
-abs_diff_up x z = omega arith
+rounding_abs_diff_up : (x z : ℕ) → abs_diff x (x + z) ≡ z
+rounding_abs_diff_up x z = omega arith
 
 -- the distance from x + z to x is z
-abs_diff_down : (x z : ℕ) → abs_diff (x + z) x ≡ z
-abs_diff_down x z = omega arith
+rounding_abs_diff_down : (x z : ℕ) → abs_diff (x + z) x ≡ z
+rounding_abs_diff_down x z = omega arith
 
 -- multiplying a distance multiplies both numbers
-pub abs_diff-mul : (x y k : ℕ) → abs_diff x y * k ≡ abs_diff (x * k) (y * k)
-abs_diff-mul x y k = elim (cases_lt x y) [
+pub rounding_abs_diff-mul : (x y k : ℕ) → abs_diff x y * k ≡ abs_diff (x * k) (y * k)
+rounding_abs_diff-mul x y k = elim (cases_lt x y) [
   | inl h ↦ upper (y - x) (omega arith)
   | inr h ↦ lower (x - y) (omega arith)
 ]
@@ -30,7 +30,7 @@ abs_diff-mul x y k = elim (cases_lt x y) [
     spread m n = omega arith
 
     upper : (z : ℕ) → y ≡ x + z → abs_diff x y * k ≡ abs_diff (x * k) (y * k)
-    upper z e = rw (e, abs_diff_up x z, spread x z) (sym (abs_diff_up (x * k) (z * k)))
+    upper z e = rw (e, rounding_abs_diff_up x z, spread x z) (sym (rounding_abs_diff_up (x * k) (z * k)))
 
     lower : (z : ℕ) → x ≡ y + z → abs_diff x y * k ≡ abs_diff (x * k) (y * k)
-    lower z e = rw (e, abs_diff_down y z, spread y z) (sym (abs_diff_down (y * k) (z * k)))
+    lower z e = rw (e, rounding_abs_diff_down y z, spread y z) (sym (rounding_abs_diff_down (y * k) (z * k)))

@@ -1,7 +1,6 @@
 -- Powers of ten, and the scale at which a ratio has n digits before the point.
 use Rattle.std.proofs.Common.{◌≡◌, ◌<◌, ◌≤◌, ◌+◌, ◌-◌, ◌*◌, ◌/◌, ◌%◌, ◌^◌, ◌+ℤ◌, ◌-ℤ◌, ℕ, ℤ, pos, negsuc, neg_ℤ, suc}
-use Rattle.std.proofs.Common.{zero, true, false}
-use Rattle.std.proofs.Common.{length, arith, refl, sym, ap, subst, ◌∙◌, lit<, inl, inr}
+use Rattle.std.proofs.Common.{zero, true, false, length, arith, refl, sym, ap, subst, ◌∙◌, lit<, inl, inr}
 use Rattle.std.specs.Prelude.{◌⊎◌, nat_le}
 use Rattle.std.specs.Int.Digits.{digits_of}
 use Rattle.std.proofs.lemmas.Bool.{cases_lt}
@@ -10,47 +9,50 @@ use Rattle.std.proofs.lemmas.Int.{ints}
 use Rattle.std.proofs.lemmas.Int.Digits.{all_below_base_digits_of, length-digits_of-le, number_digits_of, number_lt}
 use Rattle.std.proofs.lemmas.Nat.{le-div, mul-le, pow-add}
 use Rattle.std.proofs.Math.Nat.{div-add-mod, one-le-pow, pow-le-pow_right, lt_of_mul-lt-mul_right, pow-succ'}
-use Rattle.digits_print.specs.Nearest.{down, up}
-use Rattle.digits_print.specs.RatioRounding.{digit_count, first_power}
-use Rattle.digits_print.proofs.Products.{cancelled_le, scaled_lt}
+use Rattle.digits_print.specs.Nearest.{decimal_scale_denominator, decimal_scale_numerator}
+use Rattle.digits_print.specs.RatioRounding.{digit_count, power_of_first_digit}
+use Rattle.digits_print.proofs.Products.{cancelled_digits_le, scaled_digits_lt}
 
 -- a power of ten is above 0
-pub ten_some : (k : ℕ) → 0 < 10 ^ k
-ten_some k = one-le-pow k 10 (lit< tt)
+pub digit_power_some : (k : ℕ) → 0 < 10 ^ k
+digit_power_some k = one-le-pow k 10 (lit< tt)
 
 -- a power of ten above the first is ten times the one before it
-pub ten_before : (n : ℕ) → 0 < n → 10 ^ n ≡ 10 * 10 ^ (n - 1)
-ten_before zero h = absurd (omega arith)
-ten_before (suc m) h = let less : suc m - 1 ≡ m = omega arith in pow-succ' 10 m ∙ ap (λ v. 10 * 10 ^ v) (sym less)
+pub digit_power_before : (n : ℕ) → 0 < n → 10 ^ n ≡ 10 * 10 ^ (n - 1)
+digit_power_before zero h = absurd (omega arith)
+digit_power_before (suc m) h = let less : suc m - 1 ≡ m = omega arith in
+    pow-succ' 10 m ∙ ap (λ v. 10 * 10 ^ v) (sym less)
 
 -- a higher power of ten is not smaller
-pub ten_up : (i k : ℕ) → i ≤ k → 10 ^ i ≤ 10 ^ k
-ten_up i k h = pow-le-pow_right {n = 10} (lit< tt) h
+pub digit_power_up : (i k : ℕ) → i ≤ k → 10 ^ i ≤ 10 ^ k
+digit_power_up i k h = pow-le-pow_right {n = 10} (lit< tt) h
 
 -- the numerator of a scale is above 0
-pub up_some : (s : ℤ) → 0 < up s
-up_some (pos k) = ten_some k
-up_some (negsuc k) = lit< tt
+pub decimal_scale_numerator_some : (s : ℤ) → 0 < decimal_scale_numerator s
+decimal_scale_numerator_some (pos k) = digit_power_some k
+decimal_scale_numerator_some (negsuc k) = lit< tt
 
 -- the denominator of a scale is above 0
-pub down_some : (s : ℤ) → 0 < down s
-down_some (pos k) = lit< tt
-down_some (negsuc k) = ten_some (suc k)
+pub decimal_scale_denominator_some : (s : ℤ) → 0 < decimal_scale_denominator s
+decimal_scale_denominator_some (pos k) = lit< tt
+decimal_scale_denominator_some (negsuc k) = digit_power_some (suc k)
 
 -- a scale that is k above another is 10 ^ k times as great
-pub shifted : (s t : ℤ) (k : ℕ) → t ≡ s +ℤ pos k → up t * down s ≡ 10 ^ k * (up s * down t)
-shifted (pos i) (pos j) k e = powers (10 ^ j) (10 ^ i) (10 ^ k) (ap (λ m. 10 ^ m) (sum i j k e) ∙ pow-add 10 i k)
+pub shifted_decimal_scale : (s t : ℤ) (k : ℕ) → t ≡ s +ℤ pos k → decimal_scale_numerator t * decimal_scale_denominator
+    s ≡ 10 ^ k * (decimal_scale_numerator s * decimal_scale_denominator t)
+shifted_decimal_scale (pos i) (pos j) k e = powers (10 ^ j) (10 ^ i) (10 ^ k)
+    (ap (λ m. 10 ^ m) (sum i j k e) ∙ pow-add 10 i k)
   where
     sum : (i j k : ℕ) → pos j ≡ pos i +ℤ pos k → j ≡ i + k
     sum i j k e = omega (arith, ints)
 
     powers : (x y z : ℕ) → x ≡ y * z → x * 1 ≡ z * (y * 1)
     powers x y z e = omega arith
-shifted (pos i) (negsuc j) k e = absurd (apart i j k e)
+shifted_decimal_scale (pos i) (negsuc j) k e = absurd (decimal_scales_apart i j k e)
   where
-    apart : (i j k : ℕ) → negsuc j ≡ pos i +ℤ pos k → ⊥
-    apart i j k e = omega (arith, ints)
-shifted (negsuc i) (pos j) k e =
+    decimal_scales_apart : (i j k : ℕ) → negsuc j ≡ pos i +ℤ pos k → ⊥
+    decimal_scales_apart i j k e = omega (arith, ints)
+shifted_decimal_scale (negsuc i) (pos j) k e =
     powers (10 ^ j) (10 ^ suc i) (10 ^ k) (ap (λ m. 10 ^ m) (sum i j k e) ∙ pow-add 10 j (suc i))
   where
     sum : (i j k : ℕ) → pos j ≡ negsuc i +ℤ pos k → k ≡ j + suc i
@@ -58,7 +60,7 @@ shifted (negsuc i) (pos j) k e =
 
     powers : (x y z : ℕ) → z ≡ x * y → x * y ≡ z * (1 * 1)
     powers x y z e = omega arith
-shifted (negsuc i) (negsuc j) k e =
+shifted_decimal_scale (negsuc i) (negsuc j) k e =
     powers (10 ^ suc j) (10 ^ suc i) (10 ^ k) (ap (λ m. 10 ^ m) (sum i j k e) ∙ pow-add 10 k (suc j))
   where
     sum : (i j k : ℕ) → negsuc j ≡ negsuc i +ℤ pos k → suc i ≡ k + suc j
@@ -68,8 +70,8 @@ shifted (negsuc i) (negsuc j) k e =
     powers x y z e = omega arith
 
 -- of two scales, one is some number of places above the other
-pub ordered : (s t : ℤ) → ((k : ℕ) × (t ≡ s +ℤ pos k)) ⊎ ((k : ℕ) × (s ≡ t +ℤ pos (suc k)))
-ordered (pos i) (pos j) = elim (cases_lt j i) [
+pub ordered_decimal_scales : (s t : ℤ) → ((k : ℕ) × (t ≡ s +ℤ pos k)) ⊎ ((k : ℕ) × (s ≡ t +ℤ pos (suc k)))
+ordered_decimal_scales (pos i) (pos j) = elim (cases_lt j i) [
   | inl h ↦ inr (i - j - 1, above i j h)
   | inr h ↦ inl (j - i, level i j h)
 ]
@@ -79,15 +81,15 @@ ordered (pos i) (pos j) = elim (cases_lt j i) [
 
     level : (i j : ℕ) → i ≤ j → pos j ≡ pos i +ℤ pos (j - i)
     level i j h = omega (arith, ints)
-ordered (pos i) (negsuc j) = inr (i + j, above i j)
+ordered_decimal_scales (pos i) (negsuc j) = inr (i + j, above i j)
   where
     above : (i j : ℕ) → pos i ≡ negsuc j +ℤ pos (suc (i + j))
     above i j = omega (arith, ints)
-ordered (negsuc i) (pos j) = inl (suc (i + j), level i j)
+ordered_decimal_scales (negsuc i) (pos j) = inl (suc (i + j), level i j)
   where
     level : (i j : ℕ) → pos j ≡ negsuc i +ℤ pos (suc (i + j))
     level i j = omega (arith, ints)
-ordered (negsuc i) (negsuc j) = elim (cases_lt i j) [
+ordered_decimal_scales (negsuc i) (negsuc j) = elim (cases_lt i j) [
   | inl h ↦ inr (j - i - 1, above i j h)
   | inr h ↦ inl (i - j, level i j h)
 ]
@@ -100,18 +102,21 @@ ordered (negsuc i) (negsuc j) = elim (cases_lt i j) [
 
 -- at this scale a / b has n digits before the point
 pub record IsScaled (n a b : ℕ) (s : ℤ) : Type 0 where
-  pub low : 10 ^ (n - 1) * (b * up s) ≤ a * down s
-  pub high : a * down s < 10 ^ n * (b * up s)
+  pub low : 10 ^ (n - 1) * (b * decimal_scale_numerator s) ≤ a * decimal_scale_denominator s
+  pub high : a * decimal_scale_denominator s < 10 ^ n * (b * decimal_scale_numerator s)
 
 -- the ratio does not have n digits before the point at two different scales
-apart : (n a b : ℕ) (s t : ℤ) (k : ℕ) → 0 < b → t ≡ s +ℤ pos (suc k) → IsScaled n a b s → IsScaled n a b t → ⊥
-apart n a b s t k some e at_s at_t =
-    products (10 ^ (n - 1)) (10 ^ n) (10 ^ suc k) a b (up s) (down s) (up t) (down t)
-    at_t.low at_s.high (shifted s t (suc k) e) powers (down_some t) (down_some s)
+decimal_scales_apart : (n a b : ℕ) (s t : ℤ) (k : ℕ) → 0 < b → t ≡ s +ℤ pos (suc k) → IsScaled n a b s
+    → IsScaled n a b t → ⊥
+decimal_scales_apart n a b s t k some e at_s at_t =
+    products (10 ^ (n - 1)) (10 ^ n) (10 ^ suc k) a b (decimal_scale_numerator s) (decimal_scale_denominator s)
+    (decimal_scale_numerator t) (decimal_scale_denominator t)
+    at_t.low at_s.high (shifted_decimal_scale s t (suc k) e) powers (decimal_scale_denominator_some t)
+    (decimal_scale_denominator_some s)
   where
     powers : 10 ^ n ≤ 10 ^ (n - 1) * 10 ^ suc k
     powers = let more : n ≤ n - 1 + suc k =
-        omega arith in subst (λ m. 10 ^ n ≤ m) (pow-add 10 (n - 1) (suc k)) (ten_up n (n - 1 + suc k) more)
+        omega arith in subst (λ m. 10 ^ n ≤ m) (pow-add 10 (n - 1) (suc k)) (digit_power_up n (n - 1 + suc k) more)
 
     turned : (p b u d : ℕ) → p * (b * u) * d ≡ p * b * (u * d)
     turned p b u d = omega arith
@@ -123,7 +128,7 @@ apart n a b s t k some e at_s at_t =
         → q ≤ p * r → 0 < dt
         → 0 < ds → ⊥
     products p q r a b us ds ut dt low high step wide some_dt some_ds =
-        let first : a * ds * dt < q * (b * us) * dt = scaled_lt (a * ds) (q * (b * us)) dt high some_dt in
+        let first : a * ds * dt < q * (b * us) * dt = scaled_digits_lt (a * ds) (q * (b * us)) dt high some_dt in
         let second : p * (b * ut) * ds ≤ a * dt * ds = mul-le (p * (b * ut)) ds (a * dt) ds low (omega arith) in
         let third : p * (b * ut) * ds ≡ p * r * (b * us * dt) = turned p b ut ds ∙ ap (λ m. p * b * m) step
         ∙ turned' p b r us dt in
@@ -134,27 +139,27 @@ apart n a b s t k some e at_s at_t =
         omega arith
 
 -- the scale at which the ratio has n digits before the point is unique
-pub scale_unique : (n a b : ℕ) (s t : ℤ) → 0 < b → IsScaled n a b s → IsScaled n a b t → s ≡ t
-scale_unique n a b s t some at_s at_t = elim (ordered s t) [
+pub decimal_scale_unique : (n a b : ℕ) (s t : ℤ) → 0 < b → IsScaled n a b s → IsScaled n a b t → s ≡ t
+decimal_scale_unique n a b s t some at_s at_t = elim (ordered_decimal_scales s t) [
   | inl above ↦ level above.0 above.1
-  | inr below ↦ absurd (apart n a b t s below.0 some below.1 at_t at_s)
+  | inr below ↦ absurd (decimal_scales_apart n a b t s below.0 some below.1 at_t at_s)
 ]
   where
     level : (k : ℕ) → t ≡ s +ℤ pos k → s ≡ t
     level zero e = omega (arith, ints)
-    level (suc k) e = absurd (apart n a b s t k some e at_s at_t)
+    level (suc k) e = absurd (decimal_scales_apart n a b s t k some e at_s at_t)
 
 -- a number is below ten to the power of its number of digits
-pub count_below : (m : ℕ) → m < 10 ^ digit_count m
+pub below_digit_count_power : (m : ℕ) → m < 10 ^ digit_count m
 unfolding digit_count
-count_below m = subst (λ v. v < 10 ^ length (digits_of 10 m)) (number_digits_of 10 m (omega arith))
+below_digit_count_power m = subst (λ v. v < 10 ^ length (digits_of 10 m)) (number_digits_of 10 m (omega arith))
     (number_lt 10 (digits_of 10 m) (all_below_base_digits_of 10 m (omega arith)))
 
 -- a number above 0 has digits, and is at least the least number with as many
-pub count_least : (m : ℕ) → 0 < m → (0 < digit_count m) × (10 ^ (digit_count m - 1) ≤ m)
+pub digit_count_least : (m : ℕ) → 0 < m → (0 < digit_count m) × (10 ^ (digit_count m - 1) ≤ m)
 unfolding digit_count
-count_least m some =
-    let counted : 0 < digit_count m = not_none (digit_count m) some (count_below m) in (
+digit_count_least m some =
+    let counted : 0 < digit_count m = not_none (digit_count m) some (below_digit_count_power m) in (
       counted,
       elim (cases_lt m (10 ^ (digit_count m - 1))) [
         | inl h ↦ absurd (fewer h counted)
@@ -170,9 +175,9 @@ count_least m some =
     fewer h counted = let short = length-digits_of-le 10 (digit_count m - 1) m (omega arith) h in omega arith
 
 -- at the scale of its first digit, a / b has one digit before the point
-first_scaled : (a b : ℕ) → 0 < a → 0 < b → IsScaled 1 a b (first_power a b)
-unfolding first_power
-first_scaled a b some_a some_b = elim (cases_lt a b) [
+first_digit_scale : (a b : ℕ) → 0 < a → 0 < b → IsScaled 1 a b (power_of_first_digit a b)
+unfolding power_of_first_digit
+first_digit_scale a b some_a some_b = elim (cases_lt a b) [
   | inl h ↦ rw (less h) (small h)
   | inr h ↦ rw (more h) (large h)
 ]
@@ -206,12 +211,12 @@ first_scaled a b some_a some_b = elim (cases_lt a b) [
     large : b ≤ a → IsScaled 1 a b (pos (digit_count (a / b) - 1))
     large h =
         let some : 0 < a / b = le-div 1 a b some_b (omega arith) in
-        let counted = count_least (a / b) some in
+        let counted = digit_count_least (a / b) some in
         let power : 10 ^ digit_count (a / b) ≡ 10 * 10 ^ (digit_count (a / b) - 1) =
-        ten_before (digit_count (a / b)) counted.0 in
+        digit_power_before (digit_count (a / b)) counted.0 in
         let whole : b * (a / b) + a % b ≡ a = div-add-mod a b in
         let part : a % b < b = omega arith in
-        let bound = count_below (a / b) in
+        let bound = below_digit_count_power (a / b) in
         record {
           low = low_of a b (a / b) (a % b) (10 ^ (digit_count (a / b) - 1)) whole counted.1;
           high = high_of a b (a / b) (a % b) (10 ^ (digit_count (a / b) - 1)) whole part
@@ -221,20 +226,22 @@ first_scaled a b some_a some_b = elim (cases_lt a b) [
     small : a < b → IsScaled 1 a b (neg_ℤ (pos (digit_count ((b - 1) / a))))
     small h =
         let some : 0 < (b - 1) / a = le-div 1 (b - 1) a some_a (omega arith) in
-        let counted = count_least ((b - 1) / a) some in
+        let counted = digit_count_least ((b - 1) / a) some in
         let whole : a * ((b - 1) / a) + (b - 1) % a ≡ b - 1 = div-add-mod (b - 1) a in
         let part : (b - 1) % a < a = omega arith in
         at_count (digit_count ((b - 1) / a)) ((b - 1) / a) ((b - 1) % a) whole part counted.0 counted.1
-        (count_below ((b - 1) / a))
+        (below_digit_count_power ((b - 1) / a))
 
 -- at n - 1 places below the first digit, there are n digits before the point
-lowered : (n a b : ℕ) (x s : ℤ) → 0 < n → x ≡ s +ℤ pos (n - 1) → IsScaled 1 a b x → IsScaled n a b s
-lowered n a b x s some e first =
-    let step = shifted s x (n - 1) e in
+lowered_digit_scale : (n a b : ℕ) (x s : ℤ) → 0 < n → x ≡ s +ℤ pos (n - 1) → IsScaled 1 a b x → IsScaled n a b s
+lowered_digit_scale n a b x s some e first =
+    let step = shifted_decimal_scale s x (n - 1) e in
     record {
-      low = low_of (10 ^ (n - 1)) a b (up s) (down s) (up x) (down x) first.low step (down_some x);
-      high = high_of (10 ^ (n - 1)) (10 ^ n) a b (up s) (down s) (up x) (down x) first.high step (ten_before n some)
-          (down_some x) (down_some s);
+      low = low_of (10 ^ (n - 1)) a b (decimal_scale_numerator s) (decimal_scale_denominator s)
+          (decimal_scale_numerator x) (decimal_scale_denominator x) first.low step (decimal_scale_denominator_some x);
+      high = high_of (10 ^ (n - 1)) (10 ^ n) a b (decimal_scale_numerator s) (decimal_scale_denominator s)
+          (decimal_scale_numerator x) (decimal_scale_denominator x) first.high step (digit_power_before n some)
+          (decimal_scale_denominator_some x) (decimal_scale_denominator_some s);
     }
   where
     turned : (b u d : ℕ) → b * u * d ≡ b * (u * d)
@@ -246,13 +253,14 @@ lowered n a b x s some e first =
         let times : b * ux * ds ≤ a * dx * ds = mul-le (b * ux) ds (a * dx) ds (omega arith) (omega arith) in
         let left : b * ux * ds ≡ p * (b * us) * dx = turned b ux ds ∙ ap (λ m. b * m) step ∙ omega arith in
         let right : a * dx * ds ≡ a * ds * dx = omega arith in
-        cancelled_le (p * (b * us)) (a * ds) dx some (omega arith)
+        cancelled_digits_le (p * (b * us)) (a * ds) dx some (omega arith)
 
     high_of : (p q a b us ds ux dx : ℕ) → a * dx < 10 ^ 1 * (b * ux) → ux * ds ≡ p * (us * dx) → q ≡ 10 * p → 0 < dx
         → 0 < ds
         → a * ds < q * (b * us)
     high_of p q a b us ds ux dx h step e some some_ds =
-        let times : a * dx * ds < 10 * (b * ux) * ds = scaled_lt (a * dx) (10 * (b * ux)) ds (omega arith) some_ds in
+        let times : a * dx * ds < 10 * (b * ux) * ds = scaled_digits_lt (a * dx) (10 * (b * ux)) ds
+        (omega arith) some_ds in
         let left : b * ux * ds ≡ p * (b * us) * dx = turned b ux ds ∙ ap (λ m. b * m) step ∙ omega arith in
         let right : a * dx * ds ≡ a * ds * dx = omega arith in
         let ten : 10 * (b * ux) * ds ≡ 10 * (b * ux * ds) = omega arith in
@@ -260,10 +268,12 @@ lowered n a b x s some e first =
         lt_of_mul-lt-mul_right dx {m = (a * ds)} {n = (q * (b * us))} (omega arith)
 
 -- rounding uses the scale at which the ratio has n digits before the point
-pub scaled : (n a b : ℕ) → 0 < n → 0 < a → 0 < b → IsScaled n a b (first_power a b -ℤ pos (n - 1))
-scaled n a b some some_a some_b =
-    lowered n a b (first_power a b) (first_power a b -ℤ pos (n - 1)) some (back (first_power a b) (n - 1))
-    (first_scaled a b some_a some_b)
+pub rounding_digit_scale : (n a b : ℕ) → 0 < n → 0 < a → 0 < b
+    → IsScaled n a b (power_of_first_digit a b -ℤ pos (n - 1))
+rounding_digit_scale n a b some some_a some_b =
+    lowered_digit_scale n a b (power_of_first_digit a b) (power_of_first_digit a b -ℤ pos (n - 1)) some
+    (back (power_of_first_digit a b) (n - 1))
+    (first_digit_scale a b some_a some_b)
   where
     back : (x : ℤ) (k : ℕ) → x ≡ (x -ℤ pos k) +ℤ pos k
     back x k = omega (arith, ints)

@@ -19,9 +19,9 @@ pub(crate) struct Decimal {
 }
 
 impl Model for Decimal {
-    ghost use Rattle.frac128.specs.Decimals.{Decimal};
+    ghost use Rattle.frac128.specs.Decimals.{NumeralDecimal};
 
-    ghost Value = { Decimal };
+    ghost Value = { NumeralDecimal };
 
     ghost view = { λ x. record { coefficient = x.coefficient; scale = x.scale } };
 
@@ -36,7 +36,7 @@ impl Decimal {
         requires fits { HasDigits digits number }
         requires low { negsuc 99 <ℤ scale }
         requires high { scale <ℤ pos 100 }
-        ensures value { result ≡ spec.carry_of digits (nearest_spec.by_half number cut) scale }
+        ensures value { result ≡ spec.rounding_carry digits (nearest_spec.whole_by_fraction_part number cut) scale }
         ensures fits { HasDigits digits result.coefficient }
         ensures low { negsuc 99 <ℤ result.scale }
         ensures high { result.scale ≤ℤ pos 100 }
@@ -60,7 +60,7 @@ impl Decimal {
 // Returns the number or its successor. A half rounds to the even number.
 fn by_half(number: u128, cut: Ordering) -> u128
     requires { number < 10 ^ MOST_DIGITS }
-    ensures { result ≡ nearest_spec.by_half number cut }
+    ensures { result ≡ nearest_spec.whole_by_fraction_part number cut }
 {
     match cut {
         Ordering::Less => number,

@@ -3,7 +3,7 @@
 ghost use Rattle.std.specs.Prelude.{◌≡◌, ◌++◌, ◌⊎◌, IfOk, codes, string_bytes};
 ghost use Rattle.std.specs.Fmt.{signed_decimal};
 ghost use Rattle.frac128.specs.Fraction.{IsFrac};
-ghost use Rattle.digits_print.specs.Exact.{ReadsAsQuotient, ReadsAsWhole, exact_text};
+ghost use Rattle.digits_print.specs.Exact.{PrintReadsAsQuotient, PrintReadsAsWhole, exact_print_text};
 
 use crate::laws::exact_law;
 use frac128::Frac;
@@ -12,8 +12,8 @@ use units_io::Text;
 
 /// Returns the fraction in decimal digits: `n`, or `n|d` if the denominator is above 1. Fails only if memory runs out.
 pub fn print_exact(alloc: Global, x: &Frac) -> Result<Text, AllocError>
-    ensures reads { IfOk result (λ text. ReadsAsWhole text x.now ⊎ ReadsAsQuotient text x.now) }
-    ensures computed { IfOk result (λ text. text ≡ exact_text x.now) }
+    ensures reads { IfOk result (λ text. PrintReadsAsWhole text x.now ⊎ PrintReadsAsQuotient text x.now) }
+    ensures computed { IfOk result (λ text. text ≡ exact_print_text x.now) }
 {
     exact_law();
     lowest_text(alloc, x)
@@ -22,7 +22,7 @@ pub fn print_exact(alloc: Global, x: &Frac) -> Result<Text, AllocError>
 // Returns the text of a fraction, which is in lowest terms.
 fn lowest_text(alloc: Global, x: &Frac) -> Result<Text, AllocError>
     ensures lowest { IsFrac x.now }
-    ensures computed { IfOk result (λ text. text ≡ exact_text x.now) }
+    ensures computed { IfOk result (λ text. text ≡ exact_print_text x.now) }
 {
     let text = if x.den() == 1 {
         x.num().to_string(alloc)?

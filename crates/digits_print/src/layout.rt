@@ -40,7 +40,7 @@ fn put_layout(
 ) -> Result<(), AllocError>
     requires some { 0 < digits }
     requires enough { digits ≤ length numeral.now }
-    ensures { OnOk result (text.new.items ≡ text.old.items ++ spec.layout digits numeral.now power) }
+    ensures { OnOk result (text.new.items ≡ text.old.items ++ spec.print_layout digits numeral.now power) }
 {
     let size = power.unsigned_abs();
     if power < LEAST_PLAIN_POWER {
@@ -57,7 +57,7 @@ fn put_layout(
 // Appends the digits in plain notation, with `before` digits before the point.
 fn put_plain(text: &mut Vec<u8>, digits: &[u8], before: usize) -> Result<(), AllocError>
     requires { before ≤ length digits.now }
-    ensures { OnOk result (text.new.items ≡ text.old.items ++ spec.plain_layout digits.now before) }
+    ensures { OnOk result (text.new.items ≡ text.old.items ++ spec.plain_print_layout digits.now before) }
 {
     let (whole, rest) = digits.split_at(before);
     text.extend_from_slice(whole)?;
@@ -67,7 +67,7 @@ fn put_plain(text: &mut Vec<u8>, digits: &[u8], before: usize) -> Result<(), All
 // Appends a number below 1 in plain notation, with `zeros` zeros between the point and the first digit.
 fn put_below_one(text: &mut Vec<u8>, digits: &[u8], zeros: usize) -> Result<(), AllocError>
     requires { zeros < 4 }
-    ensures { OnOk result (text.new.items ≡ text.old.items ++ spec.below_one digits.now zeros) }
+    ensures { OnOk result (text.new.items ≡ text.old.items ++ spec.print_layout_below_one digits.now zeros) }
 {
     text.extend_from_slice(b"0.".as_slice())?;
     text.resize(text.len() + zeros, b'0')?;
@@ -82,7 +82,7 @@ fn put_scientific(
     power: i32,
 ) -> Result<(), AllocError>
     requires { 1 ≤ length digits.now }
-    ensures { OnOk result (text.new.items ≡ text.old.items ++ spec.scientific digits.now power) }
+    ensures { OnOk result (text.new.items ≡ text.old.items ++ spec.scientific_print_layout digits.now power) }
 {
     put_plain(text, digits, 1)?;
     put_exponent(alloc, text, power)
@@ -90,7 +90,7 @@ fn put_scientific(
 
 // Appends a point and the digits after it, or nothing if all of them are zeros.
 fn put_fraction(text: &mut Vec<u8>, digits: &[u8]) -> Result<(), AllocError>
-    ensures { OnOk result (text.new.items ≡ text.old.items ++ spec.fraction_part digits.now) }
+    ensures { OnOk result (text.new.items ≡ text.old.items ++ spec.printed_fraction_digits digits.now) }
 {
     let kept = without_end_zeros(digits);
     if kept.is_empty() {
@@ -102,7 +102,7 @@ fn put_fraction(text: &mut Vec<u8>, digits: &[u8]) -> Result<(), AllocError>
 
 // Appends the exponent with its mark and sign.
 fn put_exponent(alloc: Global, text: &mut Vec<u8>, power: i32) -> Result<(), AllocError>
-    ensures { OnOk result (text.new.items ≡ text.old.items ++ spec.exponent_suffix power) }
+    ensures { OnOk result (text.new.items ≡ text.old.items ++ spec.printed_exponent_suffix power) }
 {
     if power < 0 {
         text.extend_from_slice(b"e-".as_slice())?;
@@ -125,7 +125,7 @@ fn put_two_digits(alloc: Global, text: &mut Vec<u8>, n: u32) -> Result<(), Alloc
 
 // Returns the digits without trailing zeros.
 fn without_end_zeros(digits: &[u8]) -> &[u8]
-    ensures { result.now ≡ spec.without_end_zeros digits.now }
+    ensures { result.now ≡ spec.digits_without_end_zeros digits.now }
 {
     let mut end = digits.len();
     while end > 0 && digits[end - 1] == b'0' {

@@ -16,7 +16,7 @@ pub(crate) fn round_ratio(top: u128, bottom: u128, digits: u32) -> Decimal
     requires top { 0 < top }
     requires bottom { 0 < bottom }
     requires fits { bottom ≤ 2 ^ 127 }
-    ensures value { result ≡ spec.rounding_of digits top bottom }
+    ensures value { result ≡ spec.digits_rounding digits top bottom }
     ensures fits { HasDigits digits result.coefficient }
     ensures low { negsuc 99 <ℤ result.scale }
     ensures high { result.scale ≤ℤ pos 100 }
@@ -36,7 +36,7 @@ fn round_with_more_digits(top: u128, bottom: u128, digits: u32) -> Decimal
     requires bottom { 0 < bottom }
     requires fits { bottom ≤ 2 ^ 127 }
     requires low { top / bottom < 10 ^ digits }
-    ensures value { result ≡ spec.rounding_of digits top bottom }
+    ensures value { result ≡ spec.digits_rounding digits top bottom }
     ensures fits { HasDigits digits result.coefficient }
     ensures low { negsuc 99 <ℤ result.scale }
     ensures high { result.scale ≤ℤ pos 100 }
@@ -60,7 +60,7 @@ fn round_with_fewer_digits(top: u128, bottom: u128, digits: u32) -> Decimal
     requires most { digits ≤ MOST_DIGITS }
     requires bottom { 0 < bottom }
     requires high { 10 ^ digits ≤ top / bottom }
-    ensures value { result ≡ spec.rounding_of digits top bottom }
+    ensures value { result ≡ spec.digits_rounding digits top bottom }
     ensures fits { HasDigits digits result.coefficient }
     ensures low { negsuc 99 <ℤ result.scale }
     ensures high { result.scale ≤ℤ pos 100 }

@@ -1,7 +1,7 @@
 //! Numbers in a given style.
 
 ghost use Rattle.std.specs.Prelude.{◌≡◌, IfOk};
-ghost use Rattle.digits_print.specs.Styles.{IsStyle, number_text};
+ghost use Rattle.digits_print.specs.Styles.{IsPrintStyle, printed_number_text};
 
 use crate::digits::print_digits;
 use crate::exact::print_exact;
@@ -20,8 +20,8 @@ pub enum Style {
 
 /// Returns the number in a style with 1 to 36 digits, or in the exact style. Fails only if memory runs out.
 pub fn print_number(alloc: Global, x: &Frac, style: Style) -> Result<Text, AllocError>
-    requires { IsStyle style }
-    ensures { IfOk result (λ text. text ≡ number_text style x.now) }
+    requires { IsPrintStyle style }
+    ensures { IfOk result (λ text. text ≡ printed_number_text style x.now) }
 {
     match style {
         Style::Digits(digits) => print_digits(alloc, x, digits),

@@ -2,32 +2,33 @@
 use Rattle.std.proofs.Common.{◌≡◌, ◌⊎◌, ℕ, zero, suc, ◌+◌, ◌<◌, ◌≤◌, nat_eq, List, [], ◌∷◌, ◌++◌, length, get_or}
 use Rattle.std.proofs.Common.{refl, sym, ◌∙◌, ap, subst, arith, inl, inr}
 use Rattle.std.proofs.lemmas.Bool.{cases_eq, cond-true, cond-false, eq-eqb, ne_eqb}
-use Rattle.edge_links.specs.Columns.{Ring}
-use Rattle.edge_links.specs.Rings.{IsRing, AreRings, AreMembers}
+use Rattle.edge_links.specs.Columns.{LinkRing}
+use Rattle.edge_links.specs.Rings.{IsLinkRing, AreLinkRings, AreLinkRingMembers}
 use Rattle.edge_links.specs.Times.{times}
 use Rattle.std.proofs.lemmas.List.{length-append}
-use Rattle.edge_links.proofs.OwnedCounts.{owned_end}
-use Rattle.edge_links.proofs.WeightedSums.{at_most}
+use Rattle.edge_links.proofs.OwnedCounts.{appended_link_place_is_owned}
+use Rattle.edge_links.proofs.WeightedSums.{distinct_bounded_numbers_are_few}
 
 -- appending a number increases its count by one
 times_same : (x y : ℕ) (xs : List ℕ) → y ≡ x → times x (xs ++ y ∷ []) ≡ times x xs + 1
-times_same x y xs e = owned_end x xs y ∙ ap (λ k. times x xs + k) (cond-true (nat_eq y x) 1 0 (eq-eqb y x e))
+times_same x y xs e = appended_link_place_is_owned x xs y
+    ∙ ap (λ k. times x xs + k) (cond-true (nat_eq y x) 1 0 (eq-eqb y x e))
 
 -- appending another number does not change the count
 times_other : (x y : ℕ) (xs : List ℕ) → (y ≡ x → ⊥) → times x (xs ++ y ∷ []) ≡ times x xs
-times_other x y xs ne = more _ _ _ (owned_end x xs y) (cond-false (nat_eq y x) 1 0 (ne_eqb y x ne))
+times_other x y xs ne = more _ _ _ (appended_link_place_is_owned x xs y) (cond-false (nat_eq y x) 1 0 (ne_eqb y x ne))
   where
     more : (a b d : ℕ) → a ≡ b + d → d ≡ 0 → a ≡ b
     more a b d e f = omega arith
 
 -- a number that occurs in a list occurs in it with one more item
 times_more : (x y : ℕ) (xs : List ℕ) → 0 < times x xs → 0 < times x (xs ++ y ∷ [])
-times_more x y xs l = let a = owned_end x xs y in more _ _ _ (owned_end x xs y) l
+times_more x y xs l = let a = appended_link_place_is_owned x xs y in more _ _ _ (appended_link_place_is_owned x xs y) l
   where
     more : (a b d : ℕ) → a ≡ b + d → 0 < b → 0 < a
     more a b d e f = omega arith
 
-module _ (n : ℕ) (next prev owner : ℕ → ℕ) (r : IsRing n next prev owner) (head : ℕ) (there : head < n)
+module _ (n : ℕ) (next prev owner : ℕ → ℕ) (r : IsLinkRing n next prev owner) (head : ℕ) (there : head < n)
     (is_head : owner head ≡ head) where
   abbrev Met : List ℕ → ℕ → Type 0
   Met met p = (p ≡ head) ⊎ (0 < times p met)
@@ -128,8 +129,8 @@ module _ (n : ℕ) (next prev owner : ℕ → ℕ) (r : IsRing n next prev owner
     ]
 
 -- the state of a walk
-pub record IsWalking (r : Ring) (head place : ℕ) (met : List ℕ) : Type 0 where
-  pub rings : AreRings r
+pub record IsWalking (r : LinkRing) (head place : ℕ) (met : List ℕ) : Type 0 where
+  pub rings : AreLinkRings r
   pub there : head < length r.owner
   pub is_head : get_or r.owner head 0 ≡ head
   pub walk : IsWalk (length r.owner) (λ k. get_or r.next k 0) (λ k. get_or r.prev k 0)
@@ -137,9 +138,10 @@ pub record IsWalking (r : Ring) (head place : ℕ) (met : List ℕ) : Type 0 whe
       is_head place met
 
 -- a walk starts at the place before the head
-pub walking_start : (r : Ring) (head : ℕ) → AreRings r → head < length r.owner → get_or r.owner head 0 ≡ head
+pub link_ring_walk_starts_before_head : (r : LinkRing) (head : ℕ) → AreLinkRings r → head < length r.owner
+    → get_or r.owner head 0 ≡ head
     → IsWalking r head (get_or r.prev head 0) []
-walking_start r head are there is_head = record {
+link_ring_walk_starts_before_head r head are there is_head = record {
   rings = are;
   there = there;
   is_head = is_head;
@@ -148,9 +150,10 @@ walking_start r head are there is_head = record {
 }
 
 -- a walk continues with the place before
-pub walking_next : (r : Ring) (head place : ℕ) (met : List ℕ) → IsWalking r head place met → (place ≡ head → ⊥)
+pub link_ring_walk_continues : (r : LinkRing) (head place : ℕ) (met : List ℕ) → IsWalking r head place met
+    → (place ≡ head → ⊥)
     → IsWalking r head (get_or r.prev place 0) (met ++ place ∷ [])
-walking_next r head place met w on = record {
+link_ring_walk_continues r head place met w on = record {
   rings = w.rings;
   there = w.there;
   is_head = w.is_head;
@@ -160,19 +163,22 @@ walking_next r head place met w on = record {
 }
 
 -- before the walk is back at the head, it has met fewer places than there are
-pub walking_less : (r : Ring) (head place : ℕ) (met : List ℕ) → IsWalking r head place met → (place ≡ head → ⊥)
+pub link_ring_walk_meets_fewer : (r : LinkRing) (head place : ℕ) (met : List ℕ) → IsWalking r head place met
+    → (place ≡ head → ⊥)
     → length met < length r.owner
-walking_less r head place met w on =
+link_ring_walk_meets_fewer r head place met w on =
     let more =
     walk_next (length r.owner) (λ k. get_or r.next k 0) (λ k. get_or r.prev k 0)
     (λ k. get_or r.owner k 0) w.rings.ring head w.there
     w.is_head place met w.walk on in
-    let a = at_most (length r.owner) (met ++ place ∷ []) (λ p l. (more.owned p l).0) more.once in
+    let a = distinct_bounded_numbers_are_few (length r.owner) (met ++ place ∷ []) (λ p l. (more.owned p l).0) more.once
+    in
     let b = length-append met (place ∷ []) in omega arith
 
 -- a walk that is back at the head has met all members
-pub walking_end : (r : Ring) (head : ℕ) (met : List ℕ) → IsWalking r head head met → AreMembers r.owner head met
-walking_end r head met w = record {
+pub link_ring_walk_meets_all : (r : LinkRing) (head : ℕ) (met : List ℕ) → IsWalking r head head met
+    → AreLinkRingMembers r.owner head met
+link_ring_walk_meets_all r head met w = record {
   members_owned = λ p l. let o = w.walk.owned p l in (o.0, o.1, o.2);
   once = all_met (length r.owner) (λ k. get_or r.next k 0) (λ k. get_or r.prev k 0)
       (λ k. get_or r.owner k 0) w.rings.ring head w.there

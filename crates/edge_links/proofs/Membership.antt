@@ -1,7 +1,6 @@
 -- The members of a list with one more item.
-use Rattle.std.proofs.Common.{◌≡◌, ℕ, List, [], ◌∷◌, Contains, sym, inl}
-use Rattle.std.proofs.Common.{inr, map, refl, subst}
-use Rattle.edge_links.specs.WaitingStack.{AreApart}
+use Rattle.std.proofs.Common.{◌≡◌, ℕ, List, [], ◌∷◌, Contains, sym, inl, inr, map, refl, subst}
+use Rattle.edge_links.specs.WaitingStack.{AreLinkPlacesApart}
 use Rattle.general_lemmas.proofs.Members.{no_member, member_first, member_later, member_cases}
 
 -- each member of the image is the image of a member
@@ -13,13 +12,14 @@ contains_origin f m (y ∷ ys) h = elim (member_cases m (f y) (map f ys) h) [
 ]
 
 -- if different members have different images, the images of distinct members are distinct
-pub apart_map : (f : ℕ → ℕ) (xs : List ℕ) → ((x y : ℕ) → Contains xs x → Contains xs y → f x ≡ f y → x ≡ y)
-    → AreApart xs → AreApart (map f xs)
-apart_map f [] one a = a
-apart_map f (y ∷ ys) one a = (
+pub link_places_apart_after_map : (f : ℕ → ℕ) (xs : List ℕ)
+    → ((x y : ℕ) → Contains xs x → Contains xs y → f x ≡ f y → x ≡ y)
+    → AreLinkPlacesApart xs → AreLinkPlacesApart (map f xs)
+link_places_apart_after_map f [] one a = a
+link_places_apart_after_map f (y ∷ ys) one a = (
   λ i.
       let r = contains_origin f (f y) ys i in
       let same : r.0 ≡ y = one r.0 y (member_later r.0 y ys r.1) (member_first y y ys refl) r.2 in
       a.0 (subst (λ z. Contains ys z) same r.1),
-  apart_map f ys (λ x z i j e. one x z (member_later x y ys i) (member_later z y ys j) e) a.1,
+  link_places_apart_after_map f ys (λ x z i j e. one x z (member_later x y ys i) (member_later z y ys j) e) a.1,
 )

@@ -3,26 +3,30 @@ use Rattle.std.proofs.Common.{◌≡◌, ℕ, ◌+◌, ◌-◌, ◌^◌, ◌<◌
 use Rattle.std.proofs.Common.{ap, subst, arith, ◌↔◌, inl, inr, get_or-set_same, get_or-set_other, length-set}
 use Rattle.std.proofs.lemmas.Bool.{cases_eq, cond-true, cond-false, eq-eqb, ne_eqb}
 use Rattle.std.proofs.lemmas.List.{get_or_append_left, length-append, get_or_push}
-use Rattle.edge_links.proofs.OwnedCounts.{owned_more, owned_less, owned_zero, owned_end, owned_le}
-use Rattle.edge_links.proofs.OneMorePlace.{by_new}
+use Rattle.edge_links.proofs.OwnedCounts.{moved_link_raises_owned_count, moved_link_lowers_owned_count}
+use Rattle.edge_links.proofs.OwnedCounts.{link_place_zero_owns_itself, appended_link_place_is_owned}
+use Rattle.edge_links.proofs.OwnedCounts.{link_owned_count_is_bounded}
+use Rattle.edge_links.proofs.OneMorePlace.{old_or_new_link_place}
 use Rattle.edge_links.specs.Times.{times}
-use Rattle.edge_links.specs.Changes.{with_both}
-use Rattle.edge_links.specs.Owners.{Owners, AreEdges, ArePlaces, with_head}
+use Rattle.edge_links.specs.Changes.{link_owners_with_both}
+use Rattle.edge_links.specs.Owners.{LinkOwners, AreLinkEdges, AreLinkPlaces, link_owners_with_head}
 
 -- a place that is not a head owns nothing
-pub owns_none : (us ks : List ℕ) (q : ℕ) → AreEdges us ks → (get_or us q 0 ≡ q → ⊥) → (p : ℕ) → p < length us
+pub non_head_link_owns_nothing : (us ks : List ℕ) (q : ℕ) → AreLinkEdges us ks → (get_or us q 0 ≡ q → ⊥) → (p : ℕ)
+    → p < length us
     → (get_or us p 0 ≡ q → ⊥) × (get_or ks p 0 ≡ q → ⊥)
-owns_none us ks q e ne p l = (
+non_head_link_owns_nothing us ks q e ne p l = (
   λ r. ne (ap (λ x. get_or us x 0) (sym r) ∙ (e.top p l ∙ r)),
   λ r. ne (ap (λ x. get_or us x 0) (sym r) ∙ (e.key_top p l ∙ r)),
 )
 
 -- the place q gets the user u and the key k
-pub placed : (us ks : List ℕ) (q u k : ℕ) → AreEdges us ks → q < length us → (q ≡ 0 → ⊥) → u < length us → k < length us
+pub link_place_gets_user_and_key : (us ks : List ℕ) (q u k : ℕ) → AreLinkEdges us ks → q < length us → (q ≡ 0 → ⊥)
+    → u < length us → k < length us
     → (u ≡ q → ⊥) → (k ≡ q → ⊥) → get_or us u 0 ≡ u → get_or us k 0 ≡ k → (u ≡ 0) ↔ (k ≡ 0)
     → ((p : ℕ) → p < length us → (p ≡ q → ⊥) → (get_or us p 0 ≡ q → ⊥) × (get_or ks p 0 ≡ q → ⊥))
-    → AreEdges (set us q u) (set ks q k)
-placed us ks q u k e l nz ul kl uq kq hu hk zz none =
+    → AreLinkEdges (set us q u) (set ks q k)
+link_place_gets_user_and_key us ks q u k e l nz ul kl uq kq hu hk zz none =
     let us_size : length (set us q u) ≡ length us = length-set us q u in
     let ks_size : length (set ks q k) ≡ length ks = length-set ks q k in
     let ql : q < length ks = let z = e.keys_size in omega arith in
@@ -76,35 +80,40 @@ placed us ks q u k e l nz ul kl uq kq hu hk zz none =
     }
 
 -- a place that is not a head becomes free
-pub freed_edges : (us ks : List ℕ) (q : ℕ) → AreEdges us ks → q < length us → (get_or us q 0 ≡ q → ⊥)
-    → AreEdges (set us q 0) (set ks q 0)
-freed_edges us ks q e l ne =
+pub link_edges_after_freeing : (us ks : List ℕ) (q : ℕ) → AreLinkEdges us ks → q < length us → (get_or us q 0 ≡ q → ⊥)
+    → AreLinkEdges (set us q 0) (set ks q 0)
+link_edges_after_freeing us ks q e l ne =
     let nz : q ≡ 0 → ⊥ = λ r. ne (ap (λ x. get_or us x 0) r ∙ (e.zero_owner ∙ sym r)) in
     let some : 0 < length us = omega arith in
-    placed us ks q 0 0 e l nz some some (λ r. nz (sym r)) (λ r. nz (sym r)) e.zero_owner e.zero_owner (λ h. h, λ h. h)
-    (λ p m _. owns_none us ks q e ne p m)
+    link_place_gets_user_and_key us ks q 0 0 e l nz some some (λ r. nz (sym r)) (λ r. nz (sym r)) e.zero_owner
+    e.zero_owner (λ h. h, λ h. h)
+    (λ p m _. non_head_link_owns_nothing us ks q e ne p m)
 
 -- a head that owns only itself becomes free
-pub emptied_edges : (us ks : List ℕ) (q : ℕ) → AreEdges us ks → q < length us → (q ≡ 0 → ⊥)
+pub link_edges_after_emptying : (us ks : List ℕ) (q : ℕ) → AreLinkEdges us ks → q < length us → (q ≡ 0 → ⊥)
     → ((p : ℕ) → p < length us → (get_or us p 0 ≡ q → p ≡ q) × (get_or ks p 0 ≡ q → p ≡ q))
-    → AreEdges (set us q 0) (set ks q 0)
-emptied_edges us ks q e l nz alone =
+    → AreLinkEdges (set us q 0) (set ks q 0)
+link_edges_after_emptying us ks q e l nz alone =
     let some : 0 < length us = omega arith in
-    placed us ks q 0 0 e l nz some some (λ r. nz (sym r)) (λ r. nz (sym r)) e.zero_owner e.zero_owner (λ h. h, λ h. h)
+    link_place_gets_user_and_key us ks q 0 0 e l nz some some (λ r. nz (sym r)) (λ r. nz (sym r)) e.zero_owner
+    e.zero_owner (λ h. h, λ h. h)
     (λ p m ne. (λ r. ne ((alone p m).0 r), λ r. ne ((alone p m).1 r)))
 
 -- a free place becomes an edge
-pub filled_edges : (us ks : List ℕ) (q u k : ℕ) → AreEdges us ks → q < length us → (q ≡ 0 → ⊥) → get_or us q 0 ≡ 0
+pub link_edges_after_filling : (us ks : List ℕ) (q u k : ℕ) → AreLinkEdges us ks → q < length us → (q ≡ 0 → ⊥)
+    → get_or us q 0 ≡ 0
     → u < length us → k < length us → (u ≡ 0 → ⊥) → (k ≡ 0 → ⊥) → get_or us u 0 ≡ u → get_or us k 0 ≡ k
-    → AreEdges (set us q u) (set ks q k)
-filled_edges us ks q u k e l nz is_free ul kl unz knz hu hk =
-    placed us ks q u k e l nz ul kl (λ r. unz (sym hu ∙ (ap (λ x. get_or us x 0) r ∙ is_free)))
+    → AreLinkEdges (set us q u) (set ks q k)
+link_edges_after_filling us ks q u k e l nz is_free ul kl unz knz hu hk =
+    link_place_gets_user_and_key us ks q u k e l nz ul kl (λ r. unz (sym hu ∙ (ap (λ x. get_or us x 0) r ∙ is_free)))
     (λ r. knz (sym hk ∙ (ap (λ x. get_or us x 0) r ∙ is_free))) hu hk
-    (λ r. absurd (unz r), λ r. absurd (knz r)) (λ p m _. owns_none us ks q e (λ r. nz (sym r ∙ is_free)) p m)
+    (λ r. absurd (unz r), λ r. absurd (knz r))
+    (λ p m _. non_head_link_owns_nothing us ks q e (λ r. nz (sym r ∙ is_free)) p m)
 
 -- one more head is added
-pub grown_edges : (us ks : List ℕ) (n : ℕ) → n ≡ length us → AreEdges us ks → AreEdges (us ++ n ∷ []) (ks ++ n ∷ [])
-grown_edges us ks n e a =
+pub link_edges_after_growing : (us ks : List ℕ) (n : ℕ) → n ≡ length us → AreLinkEdges us ks
+    → AreLinkEdges (us ++ n ∷ []) (ks ++ n ∷ [])
+link_edges_after_growing us ks n e a =
     let us_size : length (us ++ n ∷ []) ≡ n + 1 = let z = length-append us (n ∷ []) in omega arith in
     let ks_size : length (ks ++ n ∷ []) ≡ n + 1 = let z = length-append ks (n ∷ []) in let y =
     a.keys_size in omega arith in
@@ -117,7 +126,7 @@ grown_edges us ks n e a =
     let k_new : get_or (ks ++ n ∷ []) n 0 ≡ n = get_or_push ks n 0 n kn in
     let low : (p : ℕ) → p < n → p < length us = λ p l. omega arith in
     let each : (P : ℕ → Type 0) → ((p : ℕ) → p < n → P p) → P n → (p : ℕ) → p < length (us ++ n ∷ []) → P p =
-    λ P old new p l. by_new n P old new p (omega arith) in
+    λ P old new p l. old_or_new_link_place n P old new p (omega arith) in
     record {
       keys_size = ks_size ∙ sym us_size;
       zero_owner = elim (cases_eq n 0) [
@@ -154,23 +163,26 @@ grown_edges us ks n e a =
     }
 
 -- the number of free places increases by one if a place becomes free
-pub spare_freed : (us : List ℕ) (q s : ℕ) → s ≡ times 0 us - 1 → q < length us → get_or us 0 0 ≡ 0
+pub freed_link_adds_spare : (us : List ℕ) (q s : ℕ) → s ≡ times 0 us - 1 → q < length us → get_or us 0 0 ≡ 0
     → (get_or us q 0 ≡ 0 → ⊥)
     → s + 1 ≡ times 0 (set us q 0) - 1
-spare_freed us q s e l z ne = let a = owned_more 0 us q l ne in let b = owned_zero us (omega arith) z in omega arith
+freed_link_adds_spare us q s e l z ne = let a = moved_link_raises_owned_count 0 us q l ne in
+    let b = link_place_zero_owns_itself us (omega arith) z in omega arith
 
 -- the number of free places decreases by one if a free place is filled
-pub spare_filled : (us : List ℕ) (q u s : ℕ) → s ≡ times 0 us - 1 → q < length us → get_or us q 0 ≡ 0 → (u ≡ 0 → ⊥)
+pub filled_link_uses_spare : (us : List ℕ) (q u s : ℕ) → s ≡ times 0 us - 1 → q < length us → get_or us q 0 ≡ 0
+    → (u ≡ 0 → ⊥)
     → s - 1 ≡ times 0 (set us q u) - 1
-spare_filled us q u s e l z ne = let a = owned_less 0 u us q l z ne in omega arith
+filled_link_uses_spare us q u s e l z ne = let a = moved_link_lowers_owned_count 0 u us q l z ne in omega arith
 
 -- the number of free places does not change if a head is added
-pub spare_grown : (us : List ℕ) (n s : ℕ) → n ≡ length us → s ≡ times 0 us - 1 → s ≡ times 0 (us ++ n ∷ []) - 1
-spare_grown us n s l e =
+pub grown_links_keep_spare : (us : List ℕ) (n s : ℕ) → n ≡ length us → s ≡ times 0 us - 1
+    → s ≡ times 0 (us ++ n ∷ []) - 1
+grown_links_keep_spare us n s l e =
     elim (cases_eq n 0) [
-      | inl z ↦ first _ _ _ _ (owned_end 0 us n) (cond-true (nat_eq n 0) 1 0 (eq-eqb n 0 z))
-          (let b = owned_le 0 us in omega arith) e
-      | inr nz ↦ later _ _ _ _ (owned_end 0 us n) (cond-false (nat_eq n 0) 1 0 (ne_eqb n 0 nz)) e
+      | inl z ↦ first _ _ _ _ (appended_link_place_is_owned 0 us n) (cond-true (nat_eq n 0) 1 0 (eq-eqb n 0 z))
+          (let b = link_owned_count_is_bounded 0 us in omega arith) e
+      | inr nz ↦ later _ _ _ _ (appended_link_place_is_owned 0 us n) (cond-false (nat_eq n 0) 1 0 (ne_eqb n 0 nz)) e
     ]
   where
     first : (t b d s : ℕ) → t ≡ b + d → d ≡ 1 → b ≡ 0 → s ≡ b - 1 → s ≡ t - 1
@@ -180,50 +192,55 @@ spare_grown us n s l e =
     later t b d s h i k = omega arith
 
 -- the number of free places fits in 64 bits
-pub spare_fits : (s : Owners) (spare : ℕ) → ArePlaces s spare → spare + 1 < 2 ^ 64
-spare_fits s spare p = let a = owned_le 0 s.users in let b = p.spare_count in let c = p.size in omega arith
+pub link_spare_fits_64_bits : (s : LinkOwners) (spare : ℕ) → AreLinkPlaces s spare → spare + 1 < 2 ^ 64
+link_spare_fits_64_bits s spare p = let a = link_owned_count_is_bounded 0 s.users in let b = p.spare_count in
+    let c = p.size in omega arith
 
 -- setting an owner does not change the number of places
-still_sized : (us : List ℕ) (q u : ℕ) → length us < 2 ^ 64 → length (set us q u) < 2 ^ 64
-still_sized us q u l = subst (λ n. n < 2 ^ 64) (sym (length-set us q u)) l
+set_link_owner_keeps_size : (us : List ℕ) (q u : ℕ) → length us < 2 ^ 64 → length (set us q u) < 2 ^ 64
+set_link_owner_keeps_size us q u l = subst (λ n. n < 2 ^ 64) (sym (length-set us q u)) l
 
 -- removing an edge leaves a free place
-pub freed_places : (s : Owners) (q spare : ℕ) → ArePlaces s spare → q < length s.users → (get_or s.users q 0 ≡ q → ⊥)
-    → (get_or s.users q 0 ≡ 0 → ⊥) → ArePlaces (with_both s q 0 0) (spare + 1)
-freed_places s q spare p l no_head live = record {
-  edges = freed_edges s.users s.keys q p.edges l no_head;
-  spare_count = spare_freed s.users q spare p.spare_count l p.edges.zero_owner live;
-  size = still_sized s.users q 0 p.size;
+pub link_places_after_freeing : (s : LinkOwners) (q spare : ℕ) → AreLinkPlaces s spare → q < length s.users
+    → (get_or s.users q 0 ≡ q → ⊥)
+    → (get_or s.users q 0 ≡ 0 → ⊥) → AreLinkPlaces (link_owners_with_both s q 0 0) (spare + 1)
+link_places_after_freeing s q spare p l no_head live = record {
+  edges = link_edges_after_freeing s.users s.keys q p.edges l no_head;
+  spare_count = freed_link_adds_spare s.users q spare p.spare_count l p.edges.zero_owner live;
+  size = set_link_owner_keeps_size s.users q 0 p.size;
 }
 
 -- removing a node without edges leaves a free place
-pub emptied_places : (s : Owners) (q spare : ℕ) → ArePlaces s spare → q < length s.users → (q ≡ 0 → ⊥)
+pub link_places_after_emptying : (s : LinkOwners) (q spare : ℕ) → AreLinkPlaces s spare → q < length s.users
+    → (q ≡ 0 → ⊥)
     → get_or s.users q 0 ≡ q
     → ((p : ℕ) → p < length s.users → (get_or s.users p 0 ≡ q → p ≡ q) × (get_or s.keys p 0 ≡ q → p ≡ q))
-    → ArePlaces (with_both s q 0 0) (spare + 1)
-emptied_places s q spare p l nz head alone = record {
-  edges = emptied_edges s.users s.keys q p.edges l nz alone;
-  spare_count = spare_freed s.users q spare p.spare_count l p.edges.zero_owner (λ z. nz (sym head ∙ z));
-  size = still_sized s.users q 0 p.size;
+    → AreLinkPlaces (link_owners_with_both s q 0 0) (spare + 1)
+link_places_after_emptying s q spare p l nz head alone = record {
+  edges = link_edges_after_emptying s.users s.keys q p.edges l nz alone;
+  spare_count = freed_link_adds_spare s.users q spare p.spare_count l p.edges.zero_owner (λ z. nz (sym head ∙ z));
+  size = set_link_owner_keeps_size s.users q 0 p.size;
 }
 
 -- adding an edge uses a free place
-pub filled_places : (s : Owners) (q u k spare : ℕ) → ArePlaces s spare → q < length s.users → (q ≡ 0 → ⊥)
+pub link_places_after_filling : (s : LinkOwners) (q u k spare : ℕ) → AreLinkPlaces s spare → q < length s.users
+    → (q ≡ 0 → ⊥)
     → get_or s.users q 0 ≡ 0
     → u < length s.users → k < length s.users
     → (u ≡ 0 → ⊥) → (k ≡ 0 → ⊥) → get_or s.users u 0 ≡ u → get_or s.users k 0 ≡ k
-    → ArePlaces (with_both s q u k) (spare - 1)
-filled_places s q u k spare p l nz is_free ul kl unz knz hu hk = record {
-  edges = filled_edges s.users s.keys q u k p.edges l nz is_free ul kl unz knz hu hk;
-  spare_count = spare_filled s.users q u spare p.spare_count l is_free unz;
-  size = still_sized s.users q u p.size;
+    → AreLinkPlaces (link_owners_with_both s q u k) (spare - 1)
+link_places_after_filling s q u k spare p l nz is_free ul kl unz knz hu hk = record {
+  edges = link_edges_after_filling s.users s.keys q u k p.edges l nz is_free ul kl unz knz hu hk;
+  spare_count = filled_link_uses_spare s.users q u spare p.spare_count l is_free unz;
+  size = set_link_owner_keeps_size s.users q u p.size;
 }
 
 -- adding a node adds a place
-pub grown_places : (s : Owners) (p name spare : ℕ) → ArePlaces s spare → p ≡ length s.users → p + 1 < 2 ^ 64
-    → ArePlaces (with_head s p name) spare
-grown_places s p name spare places is fits = record {
-  edges = grown_edges s.users s.keys p is places.edges;
-  spare_count = spare_grown s.users p spare is places.spare_count;
+pub link_places_after_growing : (s : LinkOwners) (p name spare : ℕ) → AreLinkPlaces s spare → p ≡ length s.users
+    → p + 1 < 2 ^ 64
+    → AreLinkPlaces (link_owners_with_head s p name) spare
+link_places_after_growing s p name spare places is fits = record {
+  edges = link_edges_after_growing s.users s.keys p is places.edges;
+  spare_count = grown_links_keep_spare s.users p spare is places.spare_count;
   size = let a = length-append s.users (p ∷ []) in omega arith;
 }

@@ -2,11 +2,13 @@
 use Rattle.std.proofs.Common.{◌≡◌, ℕ, ◌+◌, ◌<◌, ◌≤◌, length, set, get_or, refl, sym, ◌∙◌, ap, subst, arith, inl, inr}
 use Rattle.std.proofs.Common.{length-set}
 use Rattle.std.proofs.lemmas.Bool.{cases_eq}
-use Rattle.edge_links.specs.Columns.{Ring}
-use Rattle.edge_links.specs.Rings.{update_at, IsRing, AreRings}
-use Rattle.edge_links.proofs.ListPuts.{put_same, put_other, set_put, as_lists}
+use Rattle.edge_links.specs.Columns.{LinkRing}
+use Rattle.edge_links.specs.Rings.{update_at, IsLinkRing, AreLinkRings}
+use Rattle.edge_links.proofs.ListPuts.{updated_number_is_new, update_keeps_other_numbers, list_set_is_update}
+use Rattle.edge_links.proofs.ListPuts.{equal_lists_make_same_link_ring}
 
-module _ (n : ℕ) (next prev owner : ℕ → ℕ) (r : IsRing n next prev owner) (e h : ℕ) (there : e < n) (head_there : h < n)
+module _ (n : ℕ) (next prev owner : ℕ → ℕ) (r : IsLinkRing n next prev owner) (e h : ℕ) (there : e < n)
+    (head_there : h < n)
     (apart : e ≡ h → ⊥)
     (is_own : owner e ≡ e) (alone : (p : ℕ) → p < n → owner p ≡ e → p ≡ e) (is_head : owner h ≡ h) where
   abbrev pub first : ℕ
@@ -49,28 +51,31 @@ module _ (n : ℕ) (next prev owner : ℕ → ℕ) (r : IsRing n next prev owner
   not_prev_h x l f q = f (sym (r.next_of_prev x l) ∙ ap next q)
 
   at_h : next2 h ≡ e
-  at_h = put_same (update_at next e first) h e h refl
+  at_h = updated_number_is_new (update_at next e first) h e h refl
 
   at_e : next2 e ≡ first
-  at_e = put_other (update_at next e first) h e e apart ∙ put_same next e first e refl
+  at_e = update_keeps_other_numbers (update_at next e first) h e e apart ∙ updated_number_is_new next e first e refl
 
   at_other : (x : ℕ) → (x ≡ h → ⊥) → (x ≡ e → ⊥) → next2 x ≡ next x
-  at_other x a b = put_other (update_at next e first) h e x a ∙ put_other next e first x b
+  at_other x a b = update_keeps_other_numbers (update_at next e first) h e x a
+      ∙ update_keeps_other_numbers next e first x b
 
   before_first : prev2 first ≡ e
-  before_first = put_same (update_at prev e h) first e first refl
+  before_first = updated_number_is_new (update_at prev e h) first e first refl
 
   before_e : prev2 e ≡ h
-  before_e = put_other (update_at prev e h) first e e (λ q. first_e (sym q)) ∙ put_same prev e h e refl
+  before_e = update_keeps_other_numbers (update_at prev e h) first e e (λ q. first_e (sym q))
+      ∙ updated_number_is_new prev e h e refl
 
   before_other : (x : ℕ) → (x ≡ first → ⊥) → (x ≡ e → ⊥) → prev2 x ≡ prev x
-  before_other x a b = put_other (update_at prev e h) first e x a ∙ put_other prev e h x b
+  before_other x a b = update_keeps_other_numbers (update_at prev e h) first e x a
+      ∙ update_keeps_other_numbers prev e h x b
 
   own_e : owner2 e ≡ h
-  own_e = put_same owner e h e refl
+  own_e = updated_number_is_new owner e h e refl
 
   own_other : (x : ℕ) → (x ≡ e → ⊥) → owner2 x ≡ owner x
-  own_other x a = put_other owner e h x a
+  own_other x a = update_keeps_other_numbers owner e h x a
 
   own_h : owner2 h ≡ h
   own_h = own_other h (λ q. apart (sym q)) ∙ is_head
@@ -79,13 +84,15 @@ module _ (n : ℕ) (next prev owner : ℕ → ℕ) (r : IsRing n next prev owner
   rank2 x = update_at (update_at (λ k. r.rank k + 2) e 1) h 0 x
 
   rank_h : rank2 h ≡ 0
-  rank_h = put_same (update_at (λ k. r.rank k + 2) e 1) h 0 h refl
+  rank_h = updated_number_is_new (update_at (λ k. r.rank k + 2) e 1) h 0 h refl
 
   rank_e : rank2 e ≡ 1
-  rank_e = put_other (update_at (λ k. r.rank k + 2) e 1) h 0 e apart ∙ put_same (λ k. r.rank k + 2) e 1 e refl
+  rank_e = update_keeps_other_numbers (update_at (λ k. r.rank k + 2) e 1) h 0 e apart
+      ∙ updated_number_is_new (λ k. r.rank k + 2) e 1 e refl
 
   rank_other : (x : ℕ) → (x ≡ h → ⊥) → (x ≡ e → ⊥) → rank2 x ≡ r.rank x + 2
-  rank_other x a b = put_other (update_at (λ k. r.rank k + 2) e 1) h 0 x a ∙ put_other (λ k. r.rank k + 2) e 1 x b
+  rank_other x a b = update_keeps_other_numbers (update_at (λ k. r.rank k + 2) e 1) h 0 x a
+      ∙ update_keeps_other_numbers (λ k. r.rank k + 2) e 1 x b
 
   rank_le : (x : ℕ) → (x ≡ e → ⊥) → rank2 x ≤ r.rank x + 2
   rank_le x b =
@@ -112,7 +119,7 @@ module _ (n : ℕ) (next prev owner : ℕ → ℕ) (r : IsRing n next prev owner
   no_h : (x : ℕ) → (x ≡ e → ⊥) → (owner2 x ≡ x → ⊥) → (owner x ≡ x → ⊥) × (x ≡ h → ⊥)
   no_h x ne f = (λ q. f (own_other x ne ∙ q), λ q. f (ap owner2 q ∙ (own_h ∙ sym q)))
 
-  pub joined : IsRing n next2 prev2 owner2
+  pub joined : IsLinkRing n next2 prev2 owner2
   joined = record {
     next_in = by_next (λ x. next2 x < n) (subst (λ y. y < n) (sym at_h) there) (subst (λ y. y < n) (sym at_e) first_in)
         (λ x l a b. subst (λ y. y < n) (sym (at_other x a b)) (r.next_in x l));
@@ -152,7 +159,7 @@ module _ (n : ℕ) (next prev owner : ℕ → ℕ) (r : IsRing n next prev owner
   }
 
 -- the ring with the place e after the head h
-abbrev pub with_joined : Ring → ℕ → ℕ → Ring
+abbrev pub with_joined : LinkRing → ℕ → ℕ → LinkRing
 with_joined r e h = record {
   next = set (set r.next e (get_or r.next h 0)) h e;
   prev = set (set r.prev e h) (get_or r.next h 0) e;
@@ -160,11 +167,12 @@ with_joined r e h = record {
 }
 
 -- a place that was alone joins the ring of another
-pub joined_ring : (r : Ring) (e h : ℕ) → AreRings r → e < length r.owner → h < length r.owner → (e ≡ h → ⊥)
+pub link_ring_after_join : (r : LinkRing) (e h : ℕ) → AreLinkRings r → e < length r.owner → h < length r.owner
+    → (e ≡ h → ⊥)
     → get_or r.owner e 0 ≡ e
     → ((p : ℕ) → p < length r.owner → get_or r.owner p 0 ≡ e → p ≡ e) → get_or r.owner h 0 ≡ h
-    → AreRings (with_joined r e h)
-joined_ring r e h are there head_there apart is_own alone is_head =
+    → AreLinkRings (with_joined r e h)
+link_ring_after_join r e h are there head_there apart is_own alone is_head =
     let n : ℕ = length r.owner in
     let next : ℕ → ℕ = λ k. get_or r.next k 0 in
     let prev : ℕ → ℕ = λ k. get_or r.prev k 0 in
@@ -177,17 +185,20 @@ joined_ring r e h are there head_there apart is_own alone is_head =
     let m1 : length (set r.prev e h) ≡ n = length-set r.prev e h ∙ ms in
     let n2 : ◌≡◌ {A = ℕ → ℕ} (λ k. get_or (set (set r.next e f) h e) k 0)
     (next2 n next prev owner are.ring e h there head_there apart is_own alone is_head) =
-    set_put (set r.next e f) h e (omega arith) ∙ ap (λ (g : ℕ → ℕ). update_at g h e) (set_put r.next e f (omega arith))
+    list_set_is_update (set r.next e f) h e (omega arith) ∙ ap (λ (g : ℕ → ℕ). update_at g h e)
+    (list_set_is_update r.next e f (omega arith))
     in
     let p2 : ◌≡◌ {A = ℕ → ℕ} (λ k. get_or (set (set r.prev e h) f e) k 0)
     (prev2 n next prev owner are.ring e h there head_there apart is_own alone is_head) =
-    set_put (set r.prev e h) f e (omega arith) ∙ ap (λ (g : ℕ → ℕ). update_at g f e) (set_put r.prev e h (omega arith))
+    list_set_is_update (set r.prev e h) f e (omega arith) ∙ ap (λ (g : ℕ → ℕ). update_at g f e)
+    (list_set_is_update r.prev e h (omega arith))
     in
     let o2 : ◌≡◌ {A = ℕ → ℕ} (λ k. get_or (set r.owner e h) k 0)
-    (owner2 n next prev owner are.ring e h there head_there apart is_own alone is_head) = set_put r.owner e h there in
+    (owner2 n next prev owner are.ring e h there head_there apart is_own alone is_head) =
+    list_set_is_update r.owner e h there in
     let z : n ≡ length (set r.owner e h) = sym (length-set r.owner e h) in
     record {
       sizes = (length-set (set r.next e f) h e ∙ (l1 ∙ z), length-set (set r.prev e h) f e ∙ (m1 ∙ z));
-      ring = as_lists _ _ _ _ _ _ _ _ z n2 p2 o2
+      ring = equal_lists_make_same_link_ring _ _ _ _ _ _ _ _ z n2 p2 o2
           (joined n next prev owner are.ring e h there head_there apart is_own alone is_head);
     }

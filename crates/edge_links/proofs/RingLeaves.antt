@@ -2,11 +2,12 @@
 use Rattle.std.proofs.Common.{◌≡◌, ℕ, zero, suc, ◌<◌, length, set, get_or, refl, sym, ◌∙◌, ap, subst, arith, inl, inr}
 use Rattle.std.proofs.Common.{length-set}
 use Rattle.std.proofs.lemmas.Bool.{cases_eq}
-use Rattle.edge_links.specs.Columns.{Ring}
-use Rattle.edge_links.specs.Rings.{update_at, IsRing, AreRings}
-use Rattle.edge_links.proofs.ListPuts.{put_same, put_other, set_put, as_lists}
+use Rattle.edge_links.specs.Columns.{LinkRing}
+use Rattle.edge_links.specs.Rings.{update_at, IsLinkRing, AreLinkRings}
+use Rattle.edge_links.proofs.ListPuts.{updated_number_is_new, update_keeps_other_numbers, list_set_is_update}
+use Rattle.edge_links.proofs.ListPuts.{equal_lists_make_same_link_ring}
 
-module _ (n : ℕ) (next prev owner : ℕ → ℕ) (r : IsRing n next prev owner) where
+module _ (n : ℕ) (next prev owner : ℕ → ℕ) (r : IsLinkRing n next prev owner) where
   -- a head whose neighbour is itself owns no other place
   alone_within : (d h p : ℕ) → h < n → next h ≡ h → p < n → owner p ≡ h → r.rank p < d → p ≡ h
   alone_within zero h p l e q o b = absurd (omega arith)
@@ -54,28 +55,32 @@ module _ (n : ℕ) (next prev owner : ℕ → ℕ) (r : IsRing n next prev owner
     after_e q = before_e (ap prev (sym q) ∙ r.prev_of_next e there)
 
     at_e : next2 e ≡ e
-    at_e = put_same (update_at next before after) e e e refl
+    at_e = updated_number_is_new (update_at next before after) e e e refl
 
     at_before : next2 before ≡ after
-    at_before = put_other (update_at next before after) e e before before_e ∙ put_same next before after before refl
+    at_before = update_keeps_other_numbers (update_at next before after) e e before before_e
+        ∙ updated_number_is_new next before after before refl
 
     at_other : (x : ℕ) → (x ≡ before → ⊥) → (x ≡ e → ⊥) → next2 x ≡ next x
-    at_other x a b = put_other (update_at next before after) e e x b ∙ put_other next before after x a
+    at_other x a b = update_keeps_other_numbers (update_at next before after) e e x b
+        ∙ update_keeps_other_numbers next before after x a
 
     back_e : prev2 e ≡ e
-    back_e = put_same (update_at prev after before) e e e refl
+    back_e = updated_number_is_new (update_at prev after before) e e e refl
 
     back_after : prev2 after ≡ before
-    back_after = put_other (update_at prev after before) e e after after_e ∙ put_same prev after before after refl
+    back_after = update_keeps_other_numbers (update_at prev after before) e e after after_e
+        ∙ updated_number_is_new prev after before after refl
 
     back_other : (x : ℕ) → (x ≡ after → ⊥) → (x ≡ e → ⊥) → prev2 x ≡ prev x
-    back_other x a b = put_other (update_at prev after before) e e x b ∙ put_other prev after before x a
+    back_other x a b = update_keeps_other_numbers (update_at prev after before) e e x b
+        ∙ update_keeps_other_numbers prev after before x a
 
     own_e : owner2 e ≡ e
-    own_e = put_same owner e e e refl
+    own_e = updated_number_is_new owner e e e refl
 
     own_other : (x : ℕ) → (x ≡ e → ⊥) → owner2 x ≡ owner x
-    own_other x a = put_other owner e e x a
+    own_other x a = update_keeps_other_numbers owner e e x a
 
     own_before : owner before ≡ owner e
     own_before = sym (r.same_owner before before_in) ∙ ap owner (r.next_of_prev e there)
@@ -111,7 +116,7 @@ module _ (n : ℕ) (next prev owner : ℕ → ℕ) (r : IsRing n next prev owner
           | inr x-e ↦ elim (cases_eq x after) [ inl q ↦ subst P (sym q) b | inr x-a ↦ d x l x-a x-e ]
         ]
 
-    pub left : IsRing n next2 prev2 owner2
+    pub left : IsLinkRing n next2 prev2 owner2
     left = record {
       next_in = by_next (λ x. next2 x < n) (subst (λ y. y < n) (sym at_e) there)
           (subst (λ y. y < n) (sym at_before) after_in)
@@ -152,7 +157,7 @@ module _ (n : ℕ) (next prev owner : ℕ → ℕ) (r : IsRing n next prev owner
     }
 
 -- the ring with the place e removed
-abbrev pub without : Ring → ℕ → Ring
+abbrev pub without : LinkRing → ℕ → LinkRing
 without r e = record {
   next = set (set r.next (get_or r.prev e 0) (get_or r.next e 0)) e e;
   prev = set (set r.prev (get_or r.next e 0) (get_or r.prev e 0)) e e;
@@ -160,9 +165,9 @@ without r e = record {
 }
 
 -- a place that is not a head leaves its ring
-pub left_ring : (r : Ring) (e : ℕ) → AreRings r → e < length r.owner → (get_or r.owner e 0 ≡ e → ⊥)
-    → AreRings (without r e)
-left_ring r e are there no_head =
+pub link_ring_after_leave : (r : LinkRing) (e : ℕ) → AreLinkRings r → e < length r.owner → (get_or r.owner e 0 ≡ e → ⊥)
+    → AreLinkRings (without r e)
+link_ring_after_leave r e are there no_head =
     let n : ℕ = length r.owner in
     let next : ℕ → ℕ = λ k. get_or r.next k 0 in
     let prev : ℕ → ℕ = λ k. get_or r.prev k 0 in
@@ -177,16 +182,19 @@ left_ring r e are there no_head =
     let m1 : length (set r.prev a b) ≡ n = length-set r.prev a b ∙ ms in
     let n2 : ◌≡◌ {A = ℕ → ℕ} (λ k. get_or (set (set r.next b a) e e) k 0)
     (next2 n next prev owner are.ring e there no_head) =
-    set_put (set r.next b a) e e (omega arith) ∙ ap (λ (f : ℕ → ℕ). update_at f e e) (set_put r.next b a (omega arith))
+    list_set_is_update (set r.next b a) e e (omega arith) ∙ ap (λ (f : ℕ → ℕ). update_at f e e)
+    (list_set_is_update r.next b a (omega arith))
     in
     let p2 : ◌≡◌ {A = ℕ → ℕ} (λ k. get_or (set (set r.prev a b) e e) k 0)
     (prev2 n next prev owner are.ring e there no_head) =
-    set_put (set r.prev a b) e e (omega arith) ∙ ap (λ (f : ℕ → ℕ). update_at f e e) (set_put r.prev a b (omega arith))
+    list_set_is_update (set r.prev a b) e e (omega arith) ∙ ap (λ (f : ℕ → ℕ). update_at f e e)
+    (list_set_is_update r.prev a b (omega arith))
     in
     let o2 : ◌≡◌ {A = ℕ → ℕ} (λ k. get_or (set r.owner e e) k 0) (owner2 n next prev owner are.ring e there no_head) =
-    set_put r.owner e e there in
+    list_set_is_update r.owner e e there in
     let z : n ≡ length (set r.owner e e) = sym (length-set r.owner e e) in
     record {
       sizes = (length-set (set r.next b a) e e ∙ (l1 ∙ z), length-set (set r.prev a b) e e ∙ (m1 ∙ z));
-      ring = as_lists _ _ _ _ _ _ _ _ z n2 p2 o2 (left n next prev owner are.ring e there no_head);
+      ring = equal_lists_make_same_link_ring _ _ _ _ _ _ _ _ z n2 p2 o2
+          (left n next prev owner are.ring e there no_head);
     }

@@ -1,72 +1,73 @@
 -- The state of the loop that clears nodes, and its end.
 use Rattle.std.proofs.Common.{◌≡◌, ℕ, zero, suc, ◌<◌, Bool, true, false, cond, nat_eq, List, [], ◌∷◌, length, set}
-use Rattle.std.proofs.Common.{get_or}
-use Rattle.std.proofs.Common.{Contains, ◌⊎◌, ◌↔◌}
-use Rattle.std.proofs.Common.{refl, sym, ◌∙◌, ap, subst, inl, inr, arith, get_or-set_other, map}
+use Rattle.std.proofs.Common.{get_or, Contains, ◌⊎◌, ◌↔◌, refl, sym, ◌∙◌, ap, subst, inl, inr, arith, get_or-set_other}
+use Rattle.std.proofs.Common.{map}
 use Rattle.std.proofs.lemmas.Bool.{cases_eq, cond-true, cond-false, eq-eqb, ne_eqb}
-use Rattle.edge_links.specs.Changes.{IsFreed, IsParted, HasUser, HasKey}
-use Rattle.edge_links.specs.Owners.{Owners, AreEdges, Waits, IsHead}
-use Rattle.edge_links.specs.WaitingStack.{AreApart}
-use Rattle.edge_links.specs.PlaceReach.{IsEdge, PlaceReaches, at_once, further, IsAffectedPlace, IsEdgeOfAffected}
+use Rattle.edge_links.specs.Changes.{IsLinkPlaceFreed, AreLinkPlacesParted, HasLinkUser, HasLinkKey}
+use Rattle.edge_links.specs.Owners.{LinkOwners, AreLinkEdges, LinkPlaceWaits, IsLinkHead}
+use Rattle.edge_links.specs.WaitingStack.{AreLinkPlacesApart}
+use Rattle.edge_links.specs.PlaceReach.{IsLinkFromTo, LinkPlaceReaches, at_once, further, IsAffectedLinkPlace}
+use Rattle.edge_links.specs.PlaceReach.{IsLinkOfAffected}
 use Rattle.general_lemmas.proofs.Members.{no_member, member_first, member_later, member_cases}
 
 -- the head of the user of a place
-abbrev pub user : Owners → ℕ → ℕ
+abbrev pub user : LinkOwners → ℕ → ℕ
 user s p = get_or s.users p 0
 
 -- the head of the key of a place
-abbrev pub key_of : Owners → ℕ → ℕ
+abbrev pub key_of : LinkOwners → ℕ → ℕ
 key_of s p = get_or s.keys p 0
 
 -- the place was removed, and its user is done or waiting
-abbrev pub IsOut : Owners → Owners → List ℕ → ℕ → Type 0
+abbrev pub IsOut : LinkOwners → LinkOwners → List ℕ → ℕ → Type 0
 IsOut old s done p = (user s p ≡ 0) × (key_of s p ≡ 0) × (user old p ≡ p → ⊥)
-    × (Contains done (user old p) ⊎ Waits s (user old p))
+    × (Contains done (user old p) ⊎ LinkPlaceWaits s (user old p))
 
 -- the place is unchanged
-abbrev pub IsSame : Owners → Owners → ℕ → Type 0
+abbrev pub IsSame : LinkOwners → LinkOwners → ℕ → Type 0
 IsSame old s p = (user s p ≡ user old p) × (key_of s p ≡ key_of old p)
 
 -- the place is an edge
-abbrev pub IsLive : Owners → ℕ → Type 0
+abbrev pub IsLive : LinkOwners → ℕ → Type 0
 IsLive s p = (user s p ≡ p → ⊥) × (user s p ≡ 0 → ⊥)
 
 -- the state so far: the edges removed for the affected nodes, the waiting places, and the effect of the calls
-pub record IsUnsettling (old s : Owners) (name : ℕ → ℕ) (marks now : ℕ → Bool) (key : ℕ)
+pub record IsUnsettling (old s : LinkOwners) (name : ℕ → ℕ) (marks now : ℕ → Bool) (key : ℕ)
     (Called : List ℕ → Type 0) : Type 0 where
   pub size : length s.users ≡ length old.users
   pub done : List ℕ
   pub each : (p : ℕ) → p < length old.users → IsOut old s done p ⊎ IsSame old s p
   pub out_user : (p : ℕ) → p < length old.users → IsLive s p → Contains done (user s p) → ⊥
   pub out_key : (p : ℕ) → p < length old.users → IsLive s p → Contains done (key_of s p) → ⊥
-  pub reached : (x : ℕ) → Contains done x ⊎ Waits s x → (x < length old.users) × (user old x ≡ x) × (x ≡ 0 → ⊥)
-      × IsAffectedPlace old key x
+  pub reached : (x : ℕ) → Contains done x ⊎ LinkPlaceWaits s x → (x < length old.users) × (user old x ≡ x) × (x ≡ 0 → ⊥)
+      × IsAffectedLinkPlace old key x
   pub cleared : (x : ℕ) → Contains done x → now (name x) ≡ false
   pub kept : (m : ℕ) → ((x : ℕ) → Contains done x → name x ≡ m → ⊥) → now m ≡ marks m
-  pub begun : Contains done key ⊎ Waits s key
-  pub apart : AreApart done
-  pub idle : (x : ℕ) → Contains done x → Waits s x → ⊥
+  pub begun : Contains done key ⊎ LinkPlaceWaits s key
+  pub apart : AreLinkPlacesApart done
+  pub idle : (x : ℕ) → Contains done x → LinkPlaceWaits s x → ⊥
   pub calls : Called (map name done)
 
 -- the item set to false is false
-set_false : (bs : List Bool) (i : ℕ) → get_or (set bs i false) i false ≡ false
-set_false [] i = refl
-set_false (b ∷ bs) zero = refl
-set_false (b ∷ bs) (suc i) = set_false bs i
+cleared_flag_is_false : (bs : List Bool) (i : ℕ) → get_or (set bs i false) i false ≡ false
+cleared_flag_is_false [] i = refl
+cleared_flag_is_false (b ∷ bs) zero = refl
+cleared_flag_is_false (b ∷ bs) (suc i) = cleared_flag_is_false bs i
 
-module _ (old : Owners) (old_edges : AreEdges old.users old.keys) (key : ℕ) (name : ℕ → ℕ) where
+module _ (old : LinkOwners) (old_edges : AreLinkEdges old.users old.keys) (key : ℕ) (name : ℕ → ℕ) where
   -- s: with x taken from the list; t and v: after the cuts
-  module _ (s0 s t v : Owners) (x : ℕ) (marks now : ℕ → Bool) (Called Called2 : List ℕ → Type 0)
+  module _ (s0 s t v : LinkOwners) (x : ℕ) (marks now : ℕ → Bool) (Called Called2 : List ℕ → Type 0)
       (u : IsUnsettling old s0 name marks now key Called)
-      (popped : (x < length s0.users) × Waits s0 x × (s.waits ≡ set s0.waits x false))
-      (same_users : s.users ≡ s0.users) (same_keys : s.keys ≡ s0.keys) (edges : AreEdges s.users s.keys)
-      (cut_users : IsFreed (HasUser s x) s t) (t_waits : t.waits ≡ s.waits) (t_size : length t.users ≡ length s.users)
-      (cut_keys : IsFreed (HasKey t x) t v) (v_waits : (y : ℕ) → Waits v y ↔
-      (Waits t y ⊎ ((p : ℕ) × (p < length t.users) × HasKey t x p × (get_or t.users p 0 ≡ y))))
+      (popped : (x < length s0.users) × LinkPlaceWaits s0 x × (s.waits ≡ set s0.waits x false))
+      (same_users : s.users ≡ s0.users) (same_keys : s.keys ≡ s0.keys) (edges : AreLinkEdges s.users s.keys)
+      (cut_users : IsLinkPlaceFreed (HasLinkUser s x) s t) (t_waits : t.waits ≡ s.waits)
+      (t_size : length t.users ≡ length s.users)
+      (cut_keys : IsLinkPlaceFreed (HasLinkKey t x) t v) (v_waits : (y : ℕ) → LinkPlaceWaits v y ↔
+      (LinkPlaceWaits t y ⊎ ((p : ℕ) × (p < length t.users) × HasLinkKey t x p × (get_or t.users p 0 ≡ y))))
       (v_size : length v.users ≡ length t.users)
       (called : (ms : List ℕ) → Called ms → Called2 (name x ∷ ms))
       (now2 : ℕ → Bool) (cleared_x : (m : ℕ) → now2 m ≡ cond (nat_eq m (name x)) false (now m)) where
-    x_facts : (x < length old.users) × (user old x ≡ x) × (x ≡ 0 → ⊥) × IsAffectedPlace old key x
+    x_facts : (x < length old.users) × (user old x ≡ x) × (x ≡ 0 → ⊥) × IsAffectedLinkPlace old key x
     x_facts = u.reached x (inr popped.1)
 
     in_s : (p : ℕ) → p < length old.users → p < length s.users
@@ -106,7 +107,7 @@ module _ (old : Owners) (old_edges : AreEdges old.users old.keys) (key : ℕ) (n
           ]
         ]
 
-    still : (y : ℕ) → Waits s0 y → (y ≡ x) ⊎ Waits v y
+    still : (y : ℕ) → LinkPlaceWaits s0 y → (y ≡ x) ⊎ LinkPlaceWaits v y
     still y h =
         elim (cases_eq y x) [
           | inl e ↦ inl e
@@ -116,7 +117,8 @@ module _ (old : Owners) (old_edges : AreEdges old.users old.keys) (key : ℕ) (n
         ]
 
     -- the user of an edge to x is waiting
-    user_waits : (p : ℕ) → p < length old.users → (p ≡ x → ⊥) → key_of s p ≡ x → (user s p ≡ x → ⊥) → Waits v (user s p)
+    user_waits : (p : ℕ) → p < length old.users → (p ≡ x → ⊥) → key_of s p ≡ x → (user s p ≡ x → ⊥)
+        → LinkPlaceWaits v (user s p)
     user_waits p l ne e nu =
         let a = (cut_users p (in_s p l)).1 (λ h. nu h.1)
         in (v_waits (user s p)).1 (inr (p, in_t p l, (ne, a.1 ∙ e), a.0))
@@ -152,7 +154,7 @@ module _ (old : Owners) (old_edges : AreEdges old.users old.keys) (key : ℕ) (n
                     | inl e ↦ inl (member_first (user old p) x u.done (sym m.0 ∙ (sym (su p) ∙ e)))
                     | inr nu ↦ elim w.3 [
                       | inl e ↦ absurd (nu e)
-                      | inr e ↦ inr (subst (λ y. Waits v y) (su p ∙ m.0) (user_waits p l w.2 e nu))
+                      | inr e ↦ inr (subst (λ y. LinkPlaceWaits v y) (su p ∙ m.0) (user_waits p l w.2 e nu))
                     ]
                   ],
                 )
@@ -188,20 +190,21 @@ module _ (old : Owners) (old_edges : AreEdges old.users old.keys) (key : ℕ) (n
               | inr w ↦ su q ∙ (w.0 ∙ (ap (user old) e ∙ x_facts.1))
             ]
 
-    before : (z : ℕ) → get_or (set s0.waits x false) z false ≡ true → Waits s0 z
+    before : (z : ℕ) → get_or (set s0.waits x false) z false ≡ true → LinkPlaceWaits s0 z
     before z q =
         elim (cases_eq z x) [
-          | inl e ↦ subst (λ k. Waits s0 k) (sym e) popped.1
+          | inl e ↦ subst (λ k. LinkPlaceWaits s0 k) (sym e) popped.1
           | inr ne ↦ sym (get_or-set_other s0.waits x z false false ne) ∙ q
         ]
 
-    uncut : (p : ℕ) → p < length old.users → HasKey t x p → (user s p ≡ x → ⊥) × (user t p ≡ user s p)
+    uncut : (p : ℕ) → p < length old.users → HasLinkKey t x p → (user s p ≡ x → ⊥) × (user t p ≡ user s p)
         × (key_of t p ≡ key_of s p)
     uncut p l k =
         let n : user s p ≡ x → ⊥ = λ e. let a = (cut_users p (in_s p l)).0 (k.0, e) in x_facts.2 (sym k.1 ∙ a.1) in
         let a = (cut_users p (in_s p l)).1 (λ w. n w.1) in (n, a.0, a.1)
 
-    reached_new : (y : ℕ) → Waits v y → (y < length old.users) × (user old y ≡ y) × (y ≡ 0 → ⊥) × IsAffectedPlace old
+    reached_new : (y : ℕ) → LinkPlaceWaits v y → (y < length old.users) × (user old y ≡ y) × (y ≡ 0 → ⊥)
+        × IsAffectedLinkPlace old
         key y
     reached_new y h =
         elim ((v_waits y).0 h) [
@@ -220,18 +223,20 @@ module _ (old : Owners) (old_edges : AreEdges old.users old.keys) (key : ℕ) (n
                     let ko : key_of old p ≡ x = sym m.1 ∙ (sym (sk p) ∙ ks) in
                     let nh : user old p ≡ p → ⊥ = λ q. w.2.0 (sym ((old_edges.heads p lo).0 q) ∙ ko) in
                     let nz : user old p ≡ 0 → ⊥ = λ q. x_facts.2 (sym ko ∙ (old_edges.free p lo).0 q) in
-                    let edge : IsEdge old p y x = (lo, nh, nz, uo, ko) in (
+                    let edge : IsLinkFromTo old p y x = (lo, nh, nz, uo, ko) in (
                       subst (λ z. z < length old.users) uo (old_edges.owners_within p lo),
                       subst (λ z. user old z ≡ z) uo (old_edges.top p lo),
                       λ q. nz (uo ∙ q),
-                      inr (elim x_facts.3
-                          [ inl e ↦ subst (λ z. PlaceReaches old y z) e (at_once p edge) | inr r ↦ further p edge r ]),
+                      inr (elim x_facts.3 [
+                        | inl e ↦ subst (λ z. LinkPlaceReaches old y z) e (at_once p edge)
+                        | inr r ↦ further p edge r
+                      ]),
                     )
               ]
         ]
 
     -- no place that is done is waiting again
-    idle_new : (y : ℕ) → Contains (x ∷ u.done) y → Waits v y → ⊥
+    idle_new : (y : ℕ) → Contains (x ∷ u.done) y → LinkPlaceWaits v y → ⊥
     idle_new y i h =
         elim ((v_waits y).0 h) [
           | inl q ↦
@@ -263,7 +268,7 @@ module _ (old : Owners) (old_edges : AreEdges old.users old.keys) (key : ℕ) (n
         ]
       where
         still_set : get_or (set s0.waits x false) x false ≡ true → ⊥
-        still_set q = let f = set_false s0.waits x in cc
+        still_set q = let f = cleared_flag_is_false s0.waits x in cc
 
     pub unsettling_goes_on : IsUnsettling old v name marks now2 key Called2
     unsettling_goes_on = record {
@@ -278,7 +283,7 @@ module _ (old : Owners) (old_edges : AreEdges old.users old.keys) (key : ℕ) (n
           [ inl e ↦ w.4 (sk p ∙ (sym w.1 ∙ e)) | inr j ↦ u.out_key p l w.2 (subst (λ y. Contains u.done y) w.1 j) ];
       reached = λ y h. elim h [
         | inl i ↦ elim (member_cases y x u.done i) [
-          | inl e ↦ u.reached y (inr (subst (λ z. Waits s0 z) (sym e) popped.1))
+          | inl e ↦ u.reached y (inr (subst (λ z. LinkPlaceWaits s0 z) (sym e) popped.1))
           | inr j ↦
               u.reached y (inl j)
         ]
@@ -304,11 +309,11 @@ module _ (old : Owners) (old_edges : AreEdges old.users old.keys) (key : ℕ) (n
       calls = called (map name u.done) u.calls;
     }
 
-  pub unsettling_starts : (s : Owners) (marks : ℕ → Bool) (Called : List ℕ → Type 0) → Called []
+  pub unsettling_starts : (s : LinkOwners) (marks : ℕ → Bool) (Called : List ℕ → Type 0) → Called []
       → ((x : ℕ) → get_or old.waits x false ≡ false) → key < length old.users
       → user old key ≡ key
       → (key ≡ 0 → ⊥)
-      → s.users ≡ old.users → s.keys ≡ old.keys → ((x : ℕ) → Waits s x ↔ (Waits old x ⊎ (x ≡ key)))
+      → s.users ≡ old.users → s.keys ≡ old.keys → ((x : ℕ) → LinkPlaceWaits s x ↔ (LinkPlaceWaits old x ⊎ (x ≡ key)))
       → IsUnsettling old s name marks marks key Called
   unsettling_starts s marks Called called idle l h nz us ks q = record {
     size = ap length us;
@@ -337,13 +342,13 @@ module _ (old : Owners) (old_edges : AreEdges old.users old.keys) (key : ℕ) (n
   }
 
   -- no place is waiting at the end
-  module _ (s : Owners) (marks now : ℕ → Bool) (Called : List ℕ → Type 0)
+  module _ (s : LinkOwners) (marks now : ℕ → Bool) (Called : List ℕ → Type 0)
       (u : IsUnsettling old s name marks now key Called)
       (idle : (x : ℕ) → get_or s.waits x false ≡ false) where
-    none : (x : ℕ) → Waits s x → ⊥
+    none : (x : ℕ) → LinkPlaceWaits s x → ⊥
     none x h = let f = idle x in cc
 
-    pred_done : (p x y : ℕ) → IsEdge old p x y → Contains u.done y → Contains u.done x
+    pred_done : (p x y : ℕ) → IsLinkFromTo old p x y → Contains u.done y → Contains u.done x
     pred_done p x y e i =
         elim (u.each p e.0) [
           | inl o ↦ elim o.3 [ inl j ↦ subst (λ z. Contains u.done z) e.3 j | inr q ↦ absurd (none _ q) ]
@@ -352,19 +357,19 @@ module _ (old : Owners) (old_edges : AreEdges old.users old.keys) (key : ℕ) (n
               (subst (λ z. Contains u.done z) (sym (m.1 ∙ e.4)) i))
         ]
 
-    reach_done : {x y : ℕ} → PlaceReaches old x y → Contains u.done y → Contains u.done x
+    reach_done : {x y : ℕ} → LinkPlaceReaches old x y → Contains u.done y → Contains u.done x
     reach_done (at_once p e) i = pred_done p _ _ e i
     reach_done (further p e r) i = pred_done p _ _ e (reach_done r i)
 
-    pub affected_done : (x : ℕ) → IsAffectedPlace old key x → Contains u.done x
+    pub affected_done : (x : ℕ) → IsAffectedLinkPlace old key x → Contains u.done x
     affected_done x (inl e) =
         subst (λ z. Contains u.done z) (sym e) (elim u.begun [ inl i ↦ i | inr q ↦ absurd (none _ q) ])
     affected_done x (inr r) = reach_done r (elim u.begun [ inl i ↦ i | inr q ↦ absurd (none _ q) ])
 
-    pub done_affected : (x : ℕ) → Contains u.done x → IsAffectedPlace old key x
+    pub done_affected : (x : ℕ) → Contains u.done x → IsAffectedLinkPlace old key x
     done_affected x i = (u.reached x (inl i)).3
 
-    pub all_cut : IsParted (IsEdgeOfAffected old key) old s
+    pub all_cut : AreLinkPlacesParted (IsLinkOfAffected old key) old s
     all_cut p l = elim (u.each p l) [
       | inl o ↦
           let i : Contains u.done (user old p) = elim o.3 [ inl j ↦ j | inr q ↦ absurd (none _ q) ] in
@@ -377,14 +382,15 @@ module _ (old : Owners) (old_edges : AreEdges old.users old.keys) (key : ℕ) (n
       )
     ]
 
-    pub all_cleared : (x : ℕ) → IsAffectedPlace old key x → now (name x) ≡ false
+    pub all_cleared : (x : ℕ) → IsAffectedLinkPlace old key x → now (name x) ≡ false
     all_cleared x a = u.cleared x (affected_done x a)
 
-    pub all_kept : (m : ℕ) → ((x : ℕ) → IsHead old x → IsAffectedPlace old key x → name x ≡ m → ⊥) → now m ≡ marks m
+    pub all_kept : (m : ℕ) → ((x : ℕ) → IsLinkHead old x → IsAffectedLinkPlace old key x → name x ≡ m → ⊥)
+        → now m ≡ marks m
     all_kept m n = u.kept m (λ x i. let r = u.reached x (inl i) in n x (r.0, r.1, r.2) r.3)
 
-    pub all_once : (places : List ℕ) × AreApart places
-        × ((x : ℕ) → Contains places x ↔ (IsHead old x × IsAffectedPlace old key x)) × Called (map name places)
+    pub all_once : (places : List ℕ) × AreLinkPlacesApart places
+        × ((x : ℕ) → Contains places x ↔ (IsLinkHead old x × IsAffectedLinkPlace old key x)) × Called (map name places)
     all_once = (
       u.done,
       u.apart,

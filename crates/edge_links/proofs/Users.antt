@@ -2,20 +2,22 @@
 use Rattle.std.proofs.Common.{◌≡◌, ℕ, zero, suc, ◌+◌, ◌<◌, ◌≤◌, cond, nat_eq, List, [], ◌∷◌, ◌++◌, length, get_or}
 use Rattle.std.proofs.Common.{refl, sym, ◌∙◌, ap, subst, arith, inl, inr}
 use Rattle.std.proofs.lemmas.Bool.{cases_eq, cond-true, cond-false, eq-eqb, ne_eqb}
-use Rattle.edge_links.specs.Edges.{edge, edge_count}
-use Rattle.edge_links.specs.Owners.{Owners, AreEdges, IsHead}
-use Rattle.edge_links.specs.Rings.{AreMembers}
-use Rattle.edge_links.specs.PlaceView.{edge_at, edges_below, AreLinks}
+use Rattle.edge_links.specs.Edges.{link_edge, link_edge_count}
+use Rattle.edge_links.specs.Owners.{LinkOwners, AreLinkEdges, IsLinkHead}
+use Rattle.edge_links.specs.Rings.{AreLinkRingMembers}
+use Rattle.edge_links.specs.PlaceView.{link_edge_at, link_edges_below, AreLinks}
 use Rattle.edge_links.specs.Times.{times}
-use Rattle.edge_links.specs.Into.{AreUsers}
-use Rattle.edge_links.proofs.OwnedCounts.{owned_end}
-use Rattle.edge_links.proofs.EdgeCounts.{count_append, count_found, count_other, count_self}
-use Rattle.edge_links.proofs.FirstEdges.{user, key_of, by_edge, at_none, at_edge}
+use Rattle.edge_links.specs.Into.{AreLinkUsers}
+use Rattle.edge_links.proofs.OwnedCounts.{appended_link_place_is_owned}
+use Rattle.edge_links.proofs.EdgeCounts.{counted_link_edge_is_between, link_edge_count_appends}
+use Rattle.edge_links.proofs.EdgeCounts.{link_edge_count_of_other_user, link_edge_counts_itself_once}
+use Rattle.edge_links.proofs.FirstEdges.{user, key_of, place_is_link_edge_or_not, head_or_free_is_no_link_edge}
+use Rattle.edge_links.proofs.FirstEdges.{owned_place_is_link_edge}
 use Rattle.edge_links.proofs.PlacePaths.{key_head}
 use Rattle.edge_links.proofs.WeightedSums.{summed, weighed, weighed_summed, many}
 
 -- 1 if the user of a place has this name, and 0 otherwise
-abbrev pub has_user : Owners → ℕ → ℕ → ℕ
+abbrev pub has_user : LinkOwners → ℕ → ℕ → ℕ
 has_user s x p = cond (nat_eq (get_or s.names (user s p) 0) x) 1 0
 
 -- the sum over a list with one more item is the sum plus that of the item
@@ -24,11 +26,12 @@ summed_end f [] y = omega arith
 summed_end f (x ∷ xs) y = omega (arith, summed_end f xs y)
 
 -- one more user is appended
-pub user_put : (s : Owners) (users more seen : List ℕ) (place name x : ℕ) → name ≡ get_or s.names (user s place) 0
+pub link_user_is_appended : (s : LinkOwners) (users more seen : List ℕ) (place name x : ℕ)
+    → name ≡ get_or s.names (user s place) 0
     → more ≡ users ++ name ∷ []
     → times x users ≡ summed (has_user s x) seen → times x more ≡ summed (has_user s x) (seen ++ place ∷ [])
-user_put s users more seen place name x n e h =
-    sums _ _ _ _ _ (ap (times x) e) (owned_end x users name) (ap (λ k. cond (nat_eq k x) 1 0) n)
+link_user_is_appended s users more seen place name x n e h =
+    sums _ _ _ _ _ (ap (times x) e) (appended_link_place_is_owned x users name) (ap (λ k. cond (nat_eq k x) 1 0) n)
     (summed_end (has_user s x) seen place) h
   where
     sums : (a b d f i : ℕ) → {j k : ℕ} → a ≡ b → b ≡ d + j → j ≡ k → i ≡ f + k → d ≡ f → a ≡ i
@@ -43,13 +46,13 @@ stands_in (x ∷ xs) zero l = pos _ _ (cond-true (nat_eq x x) 1 0 (eq-eqb x x re
     pos a b e = omega arith
 stands_in (x ∷ xs) (suc i) l = omega (arith, stands_in xs i (omega arith))
 
-module _ (s : Owners) (e : AreEdges s.users s.keys) (nodes : List ℕ) (links : AreLinks s nodes) (key : ℕ)
+module _ (s : LinkOwners) (e : AreLinkEdges s.users s.keys) (nodes : List ℕ) (links : AreLinks s nodes) (key : ℕ)
     (there : key < length nodes)
-    (places : List ℕ) (members : AreMembers s.keys (get_or nodes key 0) places) where
+    (places : List ℕ) (members : AreLinkRingMembers s.keys (get_or nodes key 0) places) where
   abbrev head : ℕ
   head = get_or nodes key 0
 
-  is_head : IsHead s head
+  is_head : IsLinkHead s head
   is_head = (links.places key there).0
 
   one_more : (t : ℕ) → t ≡ 1 → (v : ℕ) → many t v ≡ v
@@ -62,25 +65,27 @@ module _ (s : Owners) (e : AreEdges s.users s.keys) (nodes : List ℕ) (links : 
   none (suc t) h v = cc
 
   -- the edge at a place is counted as often as the place occurs in the list
-  at_place : (x p : ℕ) → p < length s.users → edge_count (edge_at s p) x key ≡ many (times p places) (has_user s x p)
+  at_place : (x p : ℕ) → p < length s.users → link_edge_count (link_edge_at s p) x key ≡ many (times p places)
+      (has_user s x p)
   at_place x p l = elim (cases_eq (key_of s p) head) [
     | inl q ↦ elim (cases_eq p head) [
-      | inl h ↦ ap (λ es. edge_count es x key) (at_none s p (inl (subst (λ y. user s y ≡ y) (sym h) is_head.1))) ∙ sym
+      | inl h ↦ ap (λ es. link_edge_count es x key)
+          (head_or_free_is_no_link_edge s p (inl (subst (λ y. user s y ≡ y) (sym h) is_head.1))) ∙ sym
           (none (times p places) (not_head h) (has_user s x p))
       | inr ne ↦
           let no_free : user s p ≡ 0 → ⊥ = λ z. is_head.2 (sym q ∙ (e.free p l).0 z) in
           let no_own : user s p ≡ p → ⊥ = λ z. ne (sym ((e.heads p l).0 z) ∙ q) in
           let named : get_or s.names (key_of s p) 0 ≡ key = ap (λ y. get_or s.names y 0) q
           ∙ (links.places key there).1 in
-          ap (λ es. edge_count es x key) (at_edge s p no_own no_free)
+          ap (λ es. link_edge_count es x key) (owned_place_is_link_edge s p no_own no_free)
           ∙ (of_user (get_or s.names (user s p) 0) (get_or s.names (key_of s p) 0) x named
           ∙ sym (one_more (times p places) (members.once p (let z = e.keys_size in omega arith) q ne) (has_user s x p)))
     ]
-    | inr ne ↦ elim (by_edge s p) [
-      | inl h ↦ ap (λ es. edge_count es x key) (at_none s p h)
+    | inr ne ↦ elim (place_is_link_edge_or_not s p) [
+      | inl h ↦ ap (λ es. link_edge_count es x key) (head_or_free_is_no_link_edge s p h)
           ∙ sym (none (times p places) (not_owned ne) (has_user s x p))
-      | inr h ↦ ap (λ es. edge_count es x key) (at_edge s p h.0 h.1) ∙ (zero_if _ (λ m.
-          let f = count_found (get_or s.names (user s p) 0) (get_or s.names (key_of s p) 0) x key m in
+      | inr h ↦ ap (λ es. link_edge_count es x key) (owned_place_is_link_edge s p h.0 h.1) ∙ (zero_if _ (λ m.
+          let f = counted_link_edge_is_between (get_or s.names (user s p) 0) (get_or s.names (key_of s p) 0) x key m in
           ne (sym (links.head_of_name (key_of s p) (key_head s e nodes links p l h.1)).1
           ∙ ap (λ y. get_or nodes y 0) f.1))
           ∙ sym (none (times p places) (not_owned ne) (has_user s x p)))
@@ -97,17 +102,18 @@ module _ (s : Owners) (e : AreEdges s.users s.keys) (nodes : List ℕ) (links : 
       not_owned : (key_of s p ≡ head → ⊥) → times p places ≡ 0
       not_owned f = zero_if _ (λ m. f (members.members_owned p m).1)
 
-      of_user : (a b y : ℕ) → b ≡ key → edge_count (edge a b ∷ []) y key ≡ cond (nat_eq a y) 1 0
+      of_user : (a b y : ℕ) → b ≡ key → link_edge_count (link_edge a b ∷ []) y key ≡ cond (nat_eq a y) 1 0
       of_user a b y q = elim (cases_eq a y) [
-        | inl h ↦ subst (λ z. edge_count (edge a b ∷ []) z key ≡ cond (nat_eq a z) 1 0) h
-            (subst (λ z. edge_count (edge a b ∷ []) a z ≡ cond (nat_eq a a) 1 0) q
-            (count_self a b ∙ sym (cond-true (nat_eq a a) 1 0 (eq-eqb a a refl))))
-        | inr f ↦ count_other a b y key f ∙ sym (cond-false (nat_eq a y) 1 0 (ne_eqb a y f))
+        | inl h ↦ subst (λ z. link_edge_count (link_edge a b ∷ []) z key ≡ cond (nat_eq a z) 1 0) h
+            (subst (λ z. link_edge_count (link_edge a b ∷ []) a z ≡ cond (nat_eq a a) 1 0) q
+            (link_edge_counts_itself_once a b ∙ sym (cond-true (nat_eq a a) 1 0 (eq-eqb a a refl))))
+        | inr f ↦ link_edge_count_of_other_user a b y key f ∙ sym (cond-false (nat_eq a y) 1 0 (ne_eqb a y f))
       ]
 
-  below : (x m : ℕ) → m ≤ length s.users → edge_count (edges_below s m) x key ≡ weighed (has_user s x) places m
+  below : (x m : ℕ) → m ≤ length s.users → link_edge_count (link_edges_below s m) x key ≡ weighed (has_user s x) places
+      m
   below x zero l = refl
-  below x (suc m) l = count_append (edge_at s m) (edges_below s m) x key
+  below x (suc m) l = link_edge_count_appends (link_edge_at s m) (link_edges_below s m) x key
       ∙ sums _ _ _ _ (at_place x m (omega arith)) (below x m (omega arith))
     where
       sums : (a b d f : ℕ) → a ≡ d → b ≡ f → a + b ≡ d + f
@@ -117,6 +123,6 @@ module _ (s : Owners) (e : AreEdges s.users s.keys) (nodes : List ℕ) (links : 
   member_there p l = let a = (members.members_owned p l).0 in let b = e.keys_size in omega arith
 
   pub are_users : (users : List ℕ) → ((x : ℕ) → times x users ≡ summed (has_user s x) places)
-      → AreUsers (edges_below s (length s.users)) key users
+      → AreLinkUsers (link_edges_below s (length s.users)) key users
   are_users users h x = h x ∙ (sym (weighed_summed (has_user s x) places (length s.users) member_there) ∙ sym
       (below x (length s.users) (omega arith)))

@@ -3,24 +3,25 @@ use Rattle.std.specs.Prelude.{◌≡◌, ◌↔◌, ℕ, ◌<◌, List, [], ◌�
 use Rattle.std.specs.Prelude.{slice_index_or, ◌+◌, Contains}
 
 -- no place occurs twice
-abbrev pub AreApart : List ℕ → Type 0
-AreApart [] = Unit {0}
-AreApart (x ∷ xs) = (Contains xs x → ⊥) × AreApart xs
+abbrev pub AreLinkPlacesApart : List ℕ → Type 0
+AreLinkPlacesApart [] = Unit {0}
+AreLinkPlacesApart (x ∷ xs) = (Contains xs x → ⊥) × AreLinkPlacesApart xs
 
 -- starting from a place, each links to the next
-abbrev pub IsChain : List (Option ℕ) → Option ℕ → List ℕ → Type 0
-IsChain behind top [] = top ≡ None
-IsChain behind top (x ∷ xs) = (top ≡ Some x) × (x < length behind) × IsChain behind (slice_index_or behind x None) xs
+abbrev pub IsWaitingLinkChain : List (Option ℕ) → Option ℕ → List ℕ → Type 0
+IsWaitingLinkChain behind top [] = top ≡ None
+IsWaitingLinkChain behind top (x ∷ xs) = (top ≡ Some x) × (x < length behind) × IsWaitingLinkChain behind
+    (slice_index_or behind x None) xs
 
-pub record AreWaiting (waits : List Bool) (behind : List (Option ℕ)) (top : Option ℕ) : Type 0 where
+pub record AreWaitingLinks (waits : List Bool) (behind : List (Option ℕ)) (top : Option ℕ) : Type 0 where
   pub size : length behind ≡ length waits
   pub places : List ℕ
-  pub stack_chain : IsChain behind top places
+  pub stack_chain : IsWaitingLinkChain behind top places
   pub flags_of_places : (x : ℕ) → (slice_index_or waits x false ≡ true) ↔ Contains places x
-  pub apart : AreApart places
+  pub apart : AreLinkPlacesApart places
 
 -- the number of waiting places
-abbrev pub waiting_count : List Bool → ℕ
-waiting_count [] = 0
-waiting_count (true ∷ qs) = 1 + waiting_count qs
-waiting_count (false ∷ qs) = waiting_count qs
+abbrev pub waiting_link_count : List Bool → ℕ
+waiting_link_count [] = 0
+waiting_link_count (true ∷ qs) = 1 + waiting_link_count qs
+waiting_link_count (false ∷ qs) = waiting_link_count qs

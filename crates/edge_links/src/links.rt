@@ -1,10 +1,10 @@
 //! Edges between nodes.
 
 ghost use Rattle.std.specs.Prelude.{◌≡◌, ◌+◌, ◌<◌, ◌≤◌, [], ◌∷◌, length, IfOk, OnOk, OnErr};
-ghost use Rattle.edge_links.specs.Edges.{edge, SameEdges};
-ghost use Rattle.edge_links.specs.Once.{ClearsEachOnce};
-ghost use Rattle.edge_links.specs.Reach.{IsAffectedNode, AreMarksCleared, Forgets};
-ghost use Rattle.edge_links.specs.Into.{AreUsers};
+ghost use Rattle.edge_links.specs.Edges.{link_edge, AreSameLinkEdges};
+ghost use Rattle.edge_links.specs.Once.{ClearsEachMarkOnce};
+ghost use Rattle.edge_links.specs.Reach.{IsAffectedLinkNode, AreMarksCleared, ForgetsLinks};
+ghost use Rattle.edge_links.specs.Into.{AreLinkUsers};
 
 use crate::marks::Marks;
 use crate::places::Places;
@@ -26,12 +26,12 @@ pub struct Links {
 }
 
 impl Model for Links {
-    ghost use Rattle.edge_links.specs.Edges.{EdgeGraph};
-    ghost use Rattle.edge_links.specs.PlaceView.{graph_of, AreLinks};
+    ghost use Rattle.edge_links.specs.Edges.{LinkGraph};
+    ghost use Rattle.edge_links.specs.PlaceView.{link_graph_of, AreLinks};
 
-    ghost Value = { EdgeGraph };
+    ghost Value = { LinkGraph };
 
-    ghost view = { λ l. graph_of l.places l.nodes.items };
+    ghost view = { λ l. link_graph_of l.places l.nodes.items };
 
     ghost invariant = { λ l. AreLinks l.places l.nodes.items };
 }
@@ -92,7 +92,7 @@ impl Links {
     pub fn link(&mut self, user: usize, key: usize)
         requires there { (user < self.old.nodes) × (key < self.old.nodes) }
         requires room { 0 < self.old.spare }
-        ensures edges { SameEdges self.new.edges (edge user key ∷ self.old.edges) }
+        ensures edges { AreSameLinkEdges self.new.edges (link_edge user key ∷ self.old.edges) }
         ensures spare { self.new.spare + 1 ≡ self.old.spare }
         ensures nodes { self.new.nodes ≡ self.old.nodes }
     {
@@ -105,13 +105,13 @@ impl Links {
     /// nodes are the users. It allocates no memory, and its cost depends only on the edges that it removes.
     pub fn unsettle<K: Marks>(&mut self, key: usize, marks: &mut K)
         requires { key < self.old.nodes }
-        ensures edges { Forgets key self.old.edges self.new.edges }
+        ensures edges { ForgetsLinks key self.old.edges self.new.edges }
         ensures spare { self.new.spare + length self.new.edges ≡ self.old.spare + length self.old.edges }
         ensures nodes { self.new.nodes ≡ self.old.nodes }
-        ensures marks { AreMarksCleared (IsAffectedNode self.old.edges key) (K.is_marked marks.old)
+        ensures marks { AreMarksCleared (IsAffectedLinkNode self.old.edges key) (K.is_marked marks.old)
             (K.is_marked marks.new) }
         ensures rest { K.stays marks.old marks.new }
-        ensures once { ClearsEachOnce K.is_call (IsAffectedNode self.old.edges key) marks.old marks.new }
+        ensures once { ClearsEachMarkOnce K.is_call (IsAffectedLinkNode self.old.edges key) marks.old marks.new }
     {
         let place = self.nodes[key];
         self.places.unsettle(place, marks);
@@ -120,7 +120,7 @@ impl Links {
     /// Returns the users of the edges to a key, in unspecified order. Each user occurs once per such edge.
     pub fn edges_into(&self, alloc: Global, key: usize) -> Result<Nodes, AllocError>
         requires { key < self.now.nodes }
-        ensures { IfOk result (AreUsers self.now.edges key) }
+        ensures { IfOk result (AreLinkUsers self.now.edges key) }
     {
         let places = self.places.edges_into(alloc, self.nodes[key])?;
         let mut users = List::new(alloc);

@@ -1,10 +1,9 @@
 //! Places: heads, edges, and free ones.
 
-ghost use Rattle.std.specs.Prelude.{◌≡◌, ℕ, ◌+◌, ◌-◌, ◌<◌, length};
-ghost use Rattle.std.specs.Prelude.{slice_index, MatchOption, IfOk, OnOk, OnErr};
-ghost use Rattle.edge_links.specs.Changes.{IsBegun, IsFilled, with_both};
-ghost use Rattle.edge_links.specs.Owners.{AreEdges, no_owners, owned_count, with_head};
-ghost use Rattle.edge_links.specs.Rings.{AreMembers};
+ghost use Rattle.std.specs.Prelude.{◌≡◌, ℕ, ◌+◌, ◌-◌, ◌<◌, length, slice_index, MatchOption, IfOk, OnOk, OnErr};
+ghost use Rattle.edge_links.specs.Changes.{AreLinksBegun, IsLinkPlaceFilled, link_owners_with_both};
+ghost use Rattle.edge_links.specs.Owners.{AreLinkEdges, link_owned_count, link_owners_with_head, no_link_owners};
+ghost use Rattle.edge_links.specs.Rings.{AreLinkRingMembers};
 
 use crate::rings::Rings;
 use crate::slots::{Place, Side};
@@ -20,19 +19,19 @@ pub(crate) struct Places {
 }
 
 impl Model for Places {
-    ghost use Rattle.edge_links.specs.Owners.{Owners, ArePlaces};
+    ghost use Rattle.edge_links.specs.Owners.{LinkOwners, AreLinkPlaces};
 
-    ghost Value = { Owners };
+    ghost Value = { LinkOwners };
 
     ghost view = { λ p. p.rings };
 
-    ghost invariant = { λ p. ArePlaces p.rings p.spare };
+    ghost invariant = { λ p. AreLinkPlaces p.rings p.spare };
 }
 
 impl Places {
     // Creates a list without places.
     pub(crate) fn new(alloc: Global) -> Places
-        ensures { result ≡ no_owners }
+        ensures { result ≡ no_link_owners }
     {
         Places {
             rings: Rings::new(alloc),
@@ -43,7 +42,7 @@ impl Places {
     // Ensures that place 0 exists, to which the free places belong. On an error nothing changes.
     pub(crate) fn begin(&mut self) -> Result<(), AllocError>
         ensures some { OnOk result (0 < length self.new.users) }
-        ensures begun { IsBegun self.old self.new }
+        ensures begun { AreLinksBegun self.old self.new }
     {
         if self.rings.len() == 0 {
             self.rings.add_head(0)?;
@@ -53,15 +52,16 @@ impl Places {
 
     // Returns the number of free places.
     pub(crate) fn spare(&self) -> usize
-        ensures { result ≡ owned_count 0 self.now.users - 1 }
+        ensures { result ≡ link_owned_count 0 self.now.users - 1 }
     {
         self.spare
     }
 
     // Adds a place, which is a head that owns only itself. On an error nothing changes.
     pub(crate) fn add_head(&mut self, name: u32) -> Result<Place, AllocError>
-        ensures was { AreEdges self.old.users self.old.keys }
-        ensures ok { IfOk result (λ p. (p ≡ length self.old.users) × (self.new ≡ with_head self.old p name)) }
+        ensures was { AreLinkEdges self.old.users self.old.keys }
+        ensures ok { IfOk result (λ p. (p ≡ length self.old.users)
+            × (self.new ≡ link_owners_with_head self.old p name)) }
         ensures err { OnErr result (self.new ≡ self.old) }
     {
         self.rings.add_head(name)
@@ -73,7 +73,7 @@ impl Places {
         requires alone { (p : ℕ) → p < length self.old.users
             → (slice_index self.old.users p ≡ place → p ≡ place) × (slice_index self.old.keys p ≡ place → p ≡ place) }
         requires head { slice_index self.old.users place ≡ place }
-        ensures { self.new ≡ with_both self.old place 0 0 }
+        ensures { self.new ≡ link_owners_with_both self.old place 0 0 }
     {
         self.rings.join(Side::User, place, 0);
         self.rings.join(Side::Key, place, 0);
@@ -85,10 +85,10 @@ impl Places {
         requires there { (user < length self.old.users) × (key < length self.old.users) }
         requires some { (user ≡ 0 → ⊥) × (key ≡ 0 → ⊥) }
         requires heads { (slice_index self.old.users user ≡ user) × (slice_index self.old.users key ≡ key) }
-        requires room { 1 < owned_count 0 self.old.users }
-        ensures edges { AreEdges self.old.users self.old.keys }
-        ensures filled { IsFilled self.old user key self.new }
-        ensures spare { owned_count 0 self.new.users + 1 ≡ owned_count 0 self.old.users }
+        requires room { 1 < link_owned_count 0 self.old.users }
+        ensures edges { AreLinkEdges self.old.users self.old.keys }
+        ensures filled { IsLinkPlaceFilled self.old user key self.new }
+        ensures spare { link_owned_count 0 self.new.users + 1 ≡ link_owned_count 0 self.old.users }
     {
         if let Some(place) = self.rings.first(Side::User, 0) {
             self.rings.move_to(Side::User, place, user);
@@ -101,7 +101,7 @@ impl Places {
     pub(crate) fn free(&mut self, place: Place)
         requires there { place < length self.old.users }
         requires edge { (slice_index self.old.users place ≡ place → ⊥) × (slice_index self.old.users place ≡ 0 → ⊥) }
-        ensures { self.new ≡ with_both self.old place 0 0 }
+        ensures { self.new ≡ link_owners_with_both self.old place 0 0 }
     {
         self.rings.move_to(Side::User, place, 0);
         self.rings.move_to(Side::Key, place, 0);
@@ -129,8 +129,8 @@ impl Places {
     pub(crate) fn edges_into(&self, alloc: Global, key: Place) -> Result<Vec<Place>, AllocError>
         requires there { key < length self.now.users }
         requires head { slice_index self.now.users key ≡ key }
-        ensures edges { AreEdges self.now.users self.now.keys }
-        ensures members { IfOk result (λ places. AreMembers self.now.keys key places.items) }
+        ensures edges { AreLinkEdges self.now.users self.now.keys }
+        ensures members { IfOk result (λ places. AreLinkRingMembers self.now.keys key places.items) }
     {
         self.rings.members(alloc, Side::Key, key)
     }
@@ -139,7 +139,7 @@ impl Places {
     pub(crate) fn first_of(&self, user: Place) -> Option<Place>
         requires there { user < length self.now.users }
         requires head { slice_index self.now.users user ≡ user }
-        ensures edges { AreEdges self.now.users self.now.keys }
+        ensures edges { AreLinkEdges self.now.users self.now.keys }
         ensures first { MatchOption result
             ((p : ℕ) → p < length self.now.users → slice_index self.now.users p ≡ user → p ≡ user)
             (λ p. (p < length self.now.users) × (slice_index self.now.users p ≡ user) × (p ≡ user → ⊥)) }
@@ -151,7 +151,7 @@ impl Places {
     pub(crate) fn first_into(&self, key: Place) -> Option<Place>
         requires there { key < length self.now.users }
         requires head { slice_index self.now.users key ≡ key }
-        ensures edges { AreEdges self.now.users self.now.keys }
+        ensures edges { AreLinkEdges self.now.users self.now.keys }
         ensures first { MatchOption result
             ((p : ℕ) → p < length self.now.users → slice_index self.now.keys p ≡ key → p ≡ key)
             (λ p. (p < length self.now.users) × (slice_index self.now.keys p ≡ key) × (p ≡ key → ⊥)

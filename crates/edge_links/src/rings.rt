@@ -1,9 +1,9 @@
 //! Places in rings, addressed by index.
 
-ghost use Rattle.std.specs.Prelude.{◌≡◌, ℕ, ◌+◌, ◌^◌, ◌<◌, length};
-ghost use Rattle.std.specs.Prelude.{slice_index, MatchOption, IfOk, OnErr};
-ghost use Rattle.edge_links.specs.Owners.{no_owners, owners_of, with_owner, with_head};
-ghost use Rattle.edge_links.specs.Rings.{AreMembers};
+ghost use Rattle.std.specs.Prelude.{◌≡◌, ℕ, ◌+◌, ◌^◌, ◌<◌, length, slice_index, MatchOption, IfOk, OnErr};
+ghost use Rattle.edge_links.specs.Owners.{no_link_owners, link_owners_of_side, link_owners_with_owner};
+ghost use Rattle.edge_links.specs.Owners.{link_owners_with_head};
+ghost use Rattle.edge_links.specs.Rings.{AreLinkRingMembers};
 
 use crate::slots::{Place, Seat, Side, Slots};
 use std::alloc::{AllocError, Global};
@@ -18,12 +18,12 @@ pub(crate) struct Rings {
 }
 
 impl Model for Rings {
-    ghost use Rattle.edge_links.specs.Owners.{Owners, owners};
+    ghost use Rattle.edge_links.specs.Owners.{LinkOwners, link_owners};
     ghost use Rattle.edge_links.specs.RingInvariants.{AreLinked};
 
-    ghost Value = { Owners };
+    ghost Value = { LinkOwners };
 
-    ghost view = { λ r. owners r.slots };
+    ghost view = { λ r. link_owners r.slots };
 
     ghost invariant = { λ r. AreLinked r.slots r.last_waiting };
 }
@@ -31,7 +31,7 @@ impl Model for Rings {
 impl Rings {
     // Creates a list without places.
     pub(crate) fn new(alloc: Global) -> Rings
-        ensures { result ≡ no_owners }
+        ensures { result ≡ no_link_owners }
     {
         Rings {
             slots: Slots::new(alloc),
@@ -49,7 +49,7 @@ impl Rings {
     // Adds a place, which is a head that owns only itself. On an error nothing changes.
     pub(crate) fn add_head(&mut self, name: u32) -> Result<Place, AllocError>
         ensures ok { IfOk result (λ place. (place ≡ length self.old.users) × (place + 1 < 2 ^ 64)
-            × (self.new ≡ with_head self.old place name)) }
+            × (self.new ≡ link_owners_with_head self.old place name)) }
         ensures err { OnErr result (self.new ≡ self.old) }
     {
         self.slots.push(name)
@@ -57,12 +57,13 @@ impl Rings {
 
     // Returns a place that the head owns, other than the head itself.
     pub(crate) fn first(&self, side: Side, head: Place) -> Option<Place>
-        requires there { head < length (owners_of side self.now) }
-        requires head { slice_index (owners_of side self.now) head ≡ head }
+        requires there { head < length (link_owners_of_side side self.now) }
+        requires head { slice_index (link_owners_of_side side self.now) head ≡ head }
         ensures { MatchOption result
-            ((p : ℕ) → p < length (owners_of side self.now) → slice_index (owners_of side self.now) p ≡ head → p ≡ head)
-            (λ p. (p < length (owners_of side self.now)) × (slice_index (owners_of side self.now) p ≡ head)
-            × (p ≡ head → ⊥)) }
+            ((p : ℕ) → p < length (link_owners_of_side side self.now)
+            → slice_index (link_owners_of_side side self.now) p ≡ head → p ≡ head)
+            (λ p. (p < length (link_owners_of_side side self.now))
+            × (slice_index (link_owners_of_side side self.now) p ≡ head) × (p ≡ head → ⊥)) }
     {
         let place = self.slots.seat(side, head).next;
         if place == head { None } else { Some(place) }
@@ -70,8 +71,8 @@ impl Rings {
 
     // Returns the head that owns a place.
     pub(crate) fn owner(&self, side: Side, place: Place) -> Place
-        requires { place < length (owners_of side self.now) }
-        ensures { result ≡ slice_index (owners_of side self.now) place }
+        requires { place < length (link_owners_of_side side self.now) }
+        ensures { result ≡ slice_index (link_owners_of_side side self.now) place }
     {
         self.slots.seat(side, place).owner
     }
@@ -86,10 +87,11 @@ impl Rings {
 
     // Moves a place to another owner. It allocates no memory.
     pub(crate) fn move_to(&mut self, side: Side, place: Place, head: Place)
-        requires there { (place < length (owners_of side self.old)) × (head < length (owners_of side self.old)) }
-        requires place { slice_index (owners_of side self.old) place ≡ place → ⊥ }
-        requires head { slice_index (owners_of side self.old) head ≡ head }
-        ensures { self.new ≡ with_owner side self.old place head }
+        requires there { (place < length (link_owners_of_side side self.old))
+            × (head < length (link_owners_of_side side self.old)) }
+        requires place { slice_index (link_owners_of_side side self.old) place ≡ place → ⊥ }
+        requires head { slice_index (link_owners_of_side side self.old) head ≡ head }
+        ensures { self.new ≡ link_owners_with_owner side self.old place head }
     {
         self.leave(side, place);
         self.join(side, place, head);
@@ -97,11 +99,11 @@ impl Rings {
 
     // Removes a place from its ring. The place becomes a head that owns only itself.
     fn leave(&mut self, side: Side, place: Place)
-        requires there { place < length (owners_of side self.old) }
-        requires place { slice_index (owners_of side self.old) place ≡ place → ⊥ }
-        ensures owner { self.new ≡ with_owner side self.old place place }
-        ensures alone { (p : ℕ) → p < length (owners_of side self.new)
-            → slice_index (owners_of side self.new) p ≡ place → p ≡ place }
+        requires there { place < length (link_owners_of_side side self.old) }
+        requires place { slice_index (link_owners_of_side side self.old) place ≡ place → ⊥ }
+        ensures owner { self.new ≡ link_owners_with_owner side self.old place place }
+        ensures alone { (p : ℕ) → p < length (link_owners_of_side side self.new)
+            → slice_index (link_owners_of_side side self.new) p ≡ place → p ≡ place }
     {
         let seat = self.slots.seat(side, place);
         self.slots.set_next(side, seat.prev, seat.next);
@@ -116,13 +118,14 @@ impl Rings {
 
     // Moves a head that owns only itself into the ring of another head. It allocates no memory.
     pub(crate) fn join(&mut self, side: Side, place: Place, head: Place)
-        requires there { (place < length (owners_of side self.old)) × (head < length (owners_of side self.old)) }
+        requires there { (place < length (link_owners_of_side side self.old))
+            × (head < length (link_owners_of_side side self.old)) }
         requires other { place ≡ head → ⊥ }
-        requires alone { (p : ℕ) → p < length (owners_of side self.old)
-            → slice_index (owners_of side self.old) p ≡ place → p ≡ place }
-        requires place { slice_index (owners_of side self.old) place ≡ place }
-        requires head { slice_index (owners_of side self.old) head ≡ head }
-        ensures { self.new ≡ with_owner side self.old place head }
+        requires alone { (p : ℕ) → p < length (link_owners_of_side side self.old)
+            → slice_index (link_owners_of_side side self.old) p ≡ place → p ≡ place }
+        requires place { slice_index (link_owners_of_side side self.old) place ≡ place }
+        requires head { slice_index (link_owners_of_side side self.old) head ≡ head }
+        ensures { self.new ≡ link_owners_with_owner side self.old place head }
     {
         let first = self.slots.seat(side, head).next;
         let behind_head = Seat {
@@ -142,9 +145,9 @@ impl Rings {
         side: Side,
         head: Place,
     ) -> Result<Vec<Place>, AllocError>
-        requires there { head < length (owners_of side self.now) }
-        requires head { slice_index (owners_of side self.now) head ≡ head }
-        ensures { IfOk result (λ places. AreMembers (owners_of side self.now) head places.items) }
+        requires there { head < length (link_owners_of_side side self.now) }
+        requires head { slice_index (link_owners_of_side side self.now) head ≡ head }
+        ensures { IfOk result (λ places. AreLinkRingMembers (link_owners_of_side side self.now) head places.items) }
     {
         let mut places = Vec::new(alloc);
         let mut place = self.slots.seat(side, head).prev;

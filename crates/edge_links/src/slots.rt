@@ -1,8 +1,9 @@
 //! The lowest layer: one vector with the data of each place.
 
 ghost use Rattle.std.specs.Prelude.{◌≡◌, ◌+◌, ◌^◌, ◌<◌, length, slice_index, slice_index_or, IfOk, OnErr, false, None};
-ghost use Rattle.edge_links.specs.Columns.{no_columns, ring_of};
-ghost use Rattle.edge_links.specs.Columns.{with_behind, with_next, with_prev, with_seat, with_slot, with_waits};
+ghost use Rattle.edge_links.specs.Columns.{link_ring_of_side, no_link_columns, link_columns_with_next};
+ghost use Rattle.edge_links.specs.Columns.{link_columns_with_next_place, link_columns_with_prev};
+ghost use Rattle.edge_links.specs.Columns.{link_columns_with_seat, link_columns_with_slot, link_columns_with_waits};
 
 use std::alloc::{AllocError, Global};
 use std::marker::Model;
@@ -42,17 +43,17 @@ pub(crate) struct Slots {
 }
 
 impl Model for Slots {
-    ghost use Rattle.edge_links.specs.Columns.{Columns, columns};
+    ghost use Rattle.edge_links.specs.Columns.{LinkColumns, link_columns};
 
-    ghost Value = { Columns };
+    ghost Value = { LinkColumns };
 
-    ghost view = { λ s. columns s.slots.items };
+    ghost view = { λ s. link_columns s.slots.items };
 }
 
 impl Slots {
     // Creates a vector without places.
     pub(crate) fn new(alloc: Global) -> Slots
-        ensures { result ≡ no_columns }
+        ensures { result ≡ no_link_columns }
     {
         Slots {
             slots: Vec::new(alloc),
@@ -69,7 +70,7 @@ impl Slots {
     // Adds a place, which is alone in both rings. On an error nothing changes.
     pub(crate) fn push(&mut self, name: u32) -> Result<Place, AllocError>
         ensures ok { IfOk result (λ place. (place ≡ length self.old.names) × (place + 1 < 2 ^ 64)
-            × (self.new ≡ with_slot self.old place name)) }
+            × (self.new ≡ link_columns_with_slot self.old place name)) }
         ensures err { OnErr result (self.new ≡ self.old) }
     {
         let place = place_of(self.slots.len())?;
@@ -91,9 +92,9 @@ impl Slots {
     // Returns the position of a place in its ring.
     pub(crate) fn seat(&self, side: Side, place: Place) -> Seat
         requires { place < length self.now.names }
-        ensures next { result.next ≡ slice_index (ring_of side self.now).next place }
-        ensures prev { result.prev ≡ slice_index (ring_of side self.now).prev place }
-        ensures owner { result.owner ≡ slice_index (ring_of side self.now).owner place }
+        ensures next { result.next ≡ slice_index (link_ring_of_side side self.now).next place }
+        ensures prev { result.prev ≡ slice_index (link_ring_of_side side self.now).prev place }
+        ensures owner { result.owner ≡ slice_index (link_ring_of_side side self.now).owner place }
     {
         match side {
             Side::User => self.slots[place as usize].user,
@@ -127,7 +128,7 @@ impl Slots {
 
     pub(crate) fn set_next(&mut self, side: Side, place: Place, next: Place)
         requires { place < length self.old.names }
-        ensures { self.new ≡ with_next side self.old place next }
+        ensures { self.new ≡ link_columns_with_next side self.old place next }
     {
         match side {
             Side::User => self.slots[place as usize].user.next = next,
@@ -137,7 +138,7 @@ impl Slots {
 
     pub(crate) fn set_prev(&mut self, side: Side, place: Place, prev: Place)
         requires { place < length self.old.names }
-        ensures { self.new ≡ with_prev side self.old place prev }
+        ensures { self.new ≡ link_columns_with_prev side self.old place prev }
     {
         match side {
             Side::User => self.slots[place as usize].user.prev = prev,
@@ -147,7 +148,7 @@ impl Slots {
 
     pub(crate) fn set_seat(&mut self, side: Side, place: Place, seat: Seat)
         requires { place < length self.old.names }
-        ensures { self.new ≡ with_seat side self.old place seat }
+        ensures { self.new ≡ link_columns_with_seat side self.old place seat }
     {
         match side {
             Side::User => self.slots[place as usize].user = seat,
@@ -157,14 +158,14 @@ impl Slots {
 
     pub(crate) fn set_waits(&mut self, place: Place, waits: bool)
         requires { place < length self.old.names }
-        ensures { self.new ≡ with_waits self.old place waits }
+        ensures { self.new ≡ link_columns_with_waits self.old place waits }
     {
         self.slots[place as usize].waits = waits;
     }
 
     pub(crate) fn set_behind(&mut self, place: Place, behind: Option<Place>)
         requires { place < length self.old.names }
-        ensures { self.new ≡ with_behind self.old place behind }
+        ensures { self.new ≡ link_columns_with_next_place self.old place behind }
     {
         self.slots[place as usize].behind = behind;
     }

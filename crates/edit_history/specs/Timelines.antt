@@ -1,42 +1,43 @@
 -- A history and its deck as whole versions.
 use Rattle.std.specs.Prelude.{◌∷◌, [], List, Option, Some, None}
 use Rattle.edit_history.specs.Histories.{UndoStacks}
-use Rattle.edit_history.specs.Steps.{after_step}
-use Rattle.edit_history.specs.Versions.{Version}
+use Rattle.edit_history.specs.Steps.{version_after_undo_step}
+use Rattle.edit_history.specs.Versions.{HistoryVersion}
 use Rattle.edit_history.specs.declared.step.Step.{Step}
 
 -- the versions before, the last one first; the present version; and the versions that were undone, the one undone last
 -- first
-pub record Timeline : Type 0 where
-  pub past : List Version
-  pub present : Version
-  pub future : List Version
+pub record HistoryTimeline : Type 0 where
+  pub past : List HistoryVersion
+  pub present : HistoryVersion
+  pub future : List HistoryVersion
 
 -- the versions that steps give, one after another
-abbrev pub step_versions : List Step → Version → List Version
-step_versions [] v = []
-step_versions (s ∷ steps) v = after_step s v ∷ step_versions steps (after_step s v)
+abbrev pub undo_step_versions : List Step → HistoryVersion → List HistoryVersion
+undo_step_versions [] v = []
+undo_step_versions (s ∷ steps) v = version_after_undo_step s v ∷ undo_step_versions steps (version_after_undo_step s v)
 
 -- the versions of a history, and the present one
-abbrev pub timeline : UndoStacks → Version → Timeline
-timeline h v = record { past = step_versions h.done_steps v; present = v; future = step_versions h.undone v }
+abbrev pub history_timeline : UndoStacks → HistoryVersion → HistoryTimeline
+history_timeline h v =
+    record { past = undo_step_versions h.done_steps v; present = v; future = undo_step_versions h.undone v }
 
 -- the timeline after an edit that gives a version
-abbrev pub timeline_after_edit : Version → Timeline → Timeline
-timeline_after_edit v t = record { past = t.present ∷ t.past; present = v; future = [] }
+abbrev pub history_timeline_after_edit : HistoryVersion → HistoryTimeline → HistoryTimeline
+history_timeline_after_edit v t = record { past = t.present ∷ t.past; present = v; future = [] }
 
 -- the timeline after an undo, if these are the versions before
-abbrev pub undone_to : List Version → Timeline → Option Timeline
-undone_to [] t = None
-undone_to (v ∷ past) t = Some (record { past = past; present = v; future = t.present ∷ t.future })
+abbrev pub timeline_undone_to : List HistoryVersion → HistoryTimeline → Option HistoryTimeline
+timeline_undone_to [] t = None
+timeline_undone_to (v ∷ past) t = Some (record { past = past; present = v; future = t.present ∷ t.future })
 
-abbrev pub redone_to : List Version → Timeline → Option Timeline
-redone_to [] t = None
-redone_to (v ∷ future) t = Some (record { past = t.present ∷ t.past; present = v; future = future })
+abbrev pub timeline_redone_to : List HistoryVersion → HistoryTimeline → Option HistoryTimeline
+timeline_redone_to [] t = None
+timeline_redone_to (v ∷ future) t = Some (record { past = t.present ∷ t.past; present = v; future = future })
 
 -- the timelines after an undo and after a redo, if there is something to undo or redo
-abbrev pub undone : Timeline → Option Timeline
-undone t = undone_to t.past t
+abbrev pub undone_timeline : HistoryTimeline → Option HistoryTimeline
+undone_timeline t = timeline_undone_to t.past t
 
-abbrev pub redone : Timeline → Option Timeline
-redone t = redone_to t.future t
+abbrev pub redone_timeline : HistoryTimeline → Option HistoryTimeline
+redone_timeline t = timeline_redone_to t.future t

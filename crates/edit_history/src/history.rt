@@ -70,8 +70,8 @@ impl History {
     pub fn redo(&mut self, alloc: Global, table: &mut LiveTable) -> Result<(), HistoryFault>
         requires { IsHistoryOf self.old table.old.deck }
         ensures follows { IsHistoryOf self.new table.new.deck }
-        ensures redone { calls.IsUndone NothingToRedo (calls.swapped_stacks self.old) (calls.swapped_stacks self.new)
-            table.old table.new result }
+        ensures redone { calls.IsUndone NothingToRedo (calls.swapped_undo_stacks self.old)
+            (calls.swapped_undo_stacks self.new) table.old table.new result }
     {
         if self.undone.is_empty() {
             return Err(HistoryFault::NothingToRedo);

@@ -1,8 +1,8 @@
 //! Finding and applying changes of settings.
 
 ghost use Rattle.std.specs.Prelude.{◌≡◌, IfOk};
-ghost use Rattle.units_io.specs.NamedValues.{HasDistinctNames};
-ghost use Rattle.edit_history.specs.SettingSwitches.{after_change, changed_locale};
+ghost use Rattle.units_io.specs.NamedValues.{HasDistinctTextNames};
+ghost use Rattle.edit_history.specs.SettingSwitches.{history_locale_after_change, history_settings_after_change};
 
 use crate::settings_change::SettingsChange;
 use crate::vars_parts::{copy_pairs, differing_ends, same_front};
@@ -17,8 +17,8 @@ pub fn change_between(
     from: &Settings,
     to: &Settings,
 ) -> Result<SettingsChange, AllocError>
-    ensures gives { IfOk result (λ change. after_change change from.now ≡ to.now) }
-    ensures distinct { IfOk result (λ _. HasDistinctNames to.now.vars) }
+    ensures gives { IfOk result (λ change. history_settings_after_change change from.now ≡ to.now) }
+    ensures distinct { IfOk result (λ _. HasDistinctTextNames to.now.vars) }
 {
     let locale = other_locale(alloc, &from.locale, &to.locale)?;
     let first = same_front(&from.vars, &to.vars);
@@ -39,8 +39,8 @@ pub fn changed_settings(
     settings: &Settings,
     change: &SettingsChange,
 ) -> Result<Settings, AllocError>
-    requires { HasDistinctNames (after_change change.now settings.now).vars }
-    ensures { IfOk result (λ made. made ≡ after_change change.now settings.now) }
+    requires { HasDistinctTextNames (history_settings_after_change change.now settings.now).vars }
+    ensures { IfOk result (λ made. made ≡ history_settings_after_change change.now settings.now) }
 {
     let locale = locale_behind(alloc, &change.locale, &settings.locale)?;
     let mut vars = Vars::with_seed(alloc, settings.vars.table_seed());
@@ -58,7 +58,7 @@ pub fn changed_settings(
 
 // Returns the locale `to`, or `None` if it is equal to `from`.
 fn other_locale(alloc: Global, from: &Text, to: &Text) -> Result<Option<Text>, AllocError>
-    ensures { IfOk result (λ locale. changed_locale locale from.now ≡ to.now) }
+    ensures { IfOk result (λ locale. history_locale_after_change locale from.now ≡ to.now) }
 {
     if from.as_bytes() == to.as_bytes() {
         return Ok(None);
@@ -68,7 +68,7 @@ fn other_locale(alloc: Global, from: &Text, to: &Text) -> Result<Option<Text>, A
 
 // Returns the other locale if there is one, or else the old locale.
 fn locale_behind(alloc: Global, other: &Option<Text>, locale: &Text) -> Result<Text, AllocError>
-    ensures { IfOk result (λ copy. copy ≡ changed_locale other.now locale.now) }
+    ensures { IfOk result (λ copy. copy ≡ history_locale_after_change other.now locale.now) }
 {
     match other {
         Some(other) => other.copy(alloc),

@@ -2,7 +2,7 @@
 
 ghost use Rattle.std.specs.Prelude.{IfOk};
 ghost use Rattle.deck.specs.SettingChanges as changes;
-ghost use Rattle.edit_history.specs.StepEffects.{PutsSettings};
+ghost use Rattle.edit_history.specs.StepEffects.{UndoStepPutsSettings};
 
 use crate::named_value::NamedValue;
 use crate::step::Step;
@@ -17,7 +17,7 @@ pub fn step_before_set(
     value: &[u8],
 ) -> Result<Step, AllocError>
     ensures { IfOk result (λ back.
-        PutsSettings back (changes.with_variable settings.now name.now value.now) settings.now) }
+        UndoStepPutsSettings back (changes.settings_with_variable settings.now name.now value.now) settings.now) }
 {
     settings_are_undone();
     let Some(before) = settings.vars.value(name) else {
@@ -33,7 +33,8 @@ pub fn step_before_set(
 /// Returns the step that puts back the last variable, which is about to be removed. The only error is running out of
 /// memory.
 pub fn step_before_unset(alloc: Global, settings: &Settings) -> Result<Step, AllocError>
-    ensures { IfOk result (λ back. PutsSettings back (changes.without_last_variable settings.now) settings.now) }
+    ensures { IfOk result (λ back. UndoStepPutsSettings back (changes.settings_without_last_variable settings.now)
+        settings.now) }
 {
     settings_are_undone();
     let last = settings.vars.len().saturating_sub(1);
@@ -50,7 +51,8 @@ pub fn step_before_locale(
     settings: &Settings,
     locale: &[u8],
 ) -> Result<Step, AllocError>
-    ensures { IfOk result (λ back. PutsSettings back (changes.with_locale settings.now locale.now) settings.now) }
+    ensures { IfOk result (λ back. UndoStepPutsSettings back (changes.settings_with_locale settings.now locale.now)
+        settings.now) }
 {
     if settings.locale.as_bytes() == locale {
         return Ok(Step::Nothing);

@@ -1,12 +1,12 @@
 //! Applying steps to a live table.
 
 ghost use Rattle.std.specs.Prelude.{◌≡◌, ◌<◌, OnErr, OnOk, reverse, vec_len};
-ghost use Rattle.live_table.specs.Calls.{IsAcceptedEdit};
+ghost use Rattle.live_table.specs.Calls.{IsAcceptedLiveEdit};
 ghost use Rattle.edit_history.specs.Calls as calls;
-ghost use Rattle.edit_history.specs.Histories.{IsStepPath};
-ghost use Rattle.edit_history.specs.StepEffects.{IsStepped, IsSwitch};
-ghost use Rattle.edit_history.specs.Steps.{CanStep};
-ghost use Rattle.edit_history.specs.Versions.{version_of};
+ghost use Rattle.edit_history.specs.Histories.{IsUndoStepPath};
+ghost use Rattle.edit_history.specs.StepEffects.{IsUndoStepMade, IsUndoSwitchMade};
+ghost use Rattle.edit_history.specs.Steps.{CanMakeUndoStep};
+ghost use Rattle.edit_history.specs.Versions.{history_version};
 ghost use Rattle.edit_history.specs.declared.step.Step.TheVariants as step;
 
 mod one_setting;
@@ -33,13 +33,13 @@ pub fn apply_last(
     table: &mut LiveTable,
 ) -> Result<(), AllocError>
     requires some { 0 < vec_len steps.old }
-    requires lead { IsStepPath (reverse steps.old.items) (version_of table.old.deck) }
-    ensures moved { OnOk result (calls.IsMoved (reverse steps.old.items) (reverse steps.new.items)
+    requires lead { IsUndoStepPath (reverse steps.old.items) (history_version table.old.deck) }
+    ensures moved { OnOk result (calls.IsUndoStepMoved (reverse steps.old.items) (reverse steps.new.items)
         (reverse others.old.items) (reverse others.new.items) table.old.deck table.new.deck) }
-    ensures edit { OnOk result (IsAcceptedEdit table.old table.new) }
-    ensures lead { OnOk result (IsStepPath (reverse steps.new.items) (version_of table.new.deck)) }
-    ensures others { OnOk result (IsStepPath (reverse others.old.items) (version_of table.old.deck)
-        → IsStepPath (reverse others.new.items) (version_of table.new.deck)) }
+    ensures edit { OnOk result (IsAcceptedLiveEdit table.old table.new) }
+    ensures lead { OnOk result (IsUndoStepPath (reverse steps.new.items) (history_version table.new.deck)) }
+    ensures others { OnOk result (IsUndoStepPath (reverse others.old.items) (history_version table.old.deck)
+        → IsUndoStepPath (reverse others.new.items) (history_version table.new.deck)) }
     ensures steps { OnErr result (reverse steps.new.items ≡ reverse steps.old.items) }
     ensures same { OnErr result (others.new.items ≡ others.old.items) }
     ensures table { OnErr result (table.new ≡ table.old) }
@@ -60,8 +60,8 @@ pub fn apply_last(
 // Makes a step and returns the step that takes it back. If memory runs out, the error holds the step, and nothing is
 // changed.
 fn apply_step(alloc: Global, table: &mut LiveTable, step: Step) -> Result<Step, Step>
-    requires { CanStep step (version_of table.old.deck) }
-    ensures { IsStepped step table.old table.new result }
+    requires { CanMakeUndoStep step (history_version table.old.deck) }
+    ensures { IsUndoStepMade step table.old table.new result }
 {
     match step {
         Step::Define(text) => define(alloc, table, text),
@@ -77,8 +77,8 @@ fn apply_step(alloc: Global, table: &mut LiveTable, step: Step) -> Result<Step, 
 
 // Appends a line that defines a key.
 fn define(alloc: Global, table: &mut LiveTable, text: Text) -> Result<Step, Step>
-    requires { CanStep (step.Define text) (version_of table.old.deck) }
-    ensures { IsStepped (step.Define text) table.old table.new result }
+    requires { CanMakeUndoStep (step.Define text) (history_version table.old.deck) }
+    ensures { IsUndoStepMade (step.Define text) table.old table.new result }
 {
     table.deck().lines_closed();
     match table.define_shadowing(alloc, text.as_bytes()) {
@@ -90,8 +90,8 @@ fn define(alloc: Global, table: &mut LiveTable, text: Text) -> Result<Step, Step
 
 // Removes the last line, which defines a key.
 fn undefine(alloc: Global, table: &mut LiveTable, uncovered: Option<usize>) -> Result<Step, Step>
-    requires { CanStep (step.Undefine uncovered) (version_of table.old.deck) }
-    ensures { IsStepped (step.Undefine uncovered) table.old table.new result }
+    requires { CanMakeUndoStep (step.Undefine uncovered) (history_version table.old.deck) }
+    ensures { IsUndoStepMade (step.Undefine uncovered) table.old table.new result }
 {
     table.deck().lines_closed();
     match table.undefine(alloc, uncovered) {
@@ -102,8 +102,8 @@ fn undefine(alloc: Global, table: &mut LiveTable, uncovered: Option<usize>) -> R
 
 // Replaces lines by others. The box is used again for the step back.
 fn exchange(alloc: Global, table: &mut LiveTable, mut boxed: BoxedExchange) -> Result<Step, Step>
-    requires { CanStep (step.Exchange boxed) (version_of table.old.deck) }
-    ensures { IsStepped (step.Exchange boxed) table.old table.new result }
+    requires { CanMakeUndoStep (step.Exchange boxed) (history_version table.old.deck) }
+    ensures { IsUndoStepMade (step.Exchange boxed) table.old table.new result }
 {
     splices_are_undone();
     table.deck().lines_closed();
@@ -144,8 +144,8 @@ fn exchange_in(splice: Splice) -> LineExchange
 
 // Puts other settings in force.
 fn switch(alloc: Global, table: &mut LiveTable, mut change: BoxedChange) -> Result<Step, Step>
-    requires { CanStep (step.Switch change) (version_of table.old.deck) }
-    ensures { IsStepped (step.Switch change) table.old table.new result }
+    requires { CanMakeUndoStep (step.Switch change) (history_version table.old.deck) }
+    ensures { IsUndoStepMade (step.Switch change) table.old table.new result }
 {
     table.deck().lines_closed();
     let Ok(settings) = changed_settings(alloc, table.deck().settings(), change.get()) else {
@@ -167,7 +167,7 @@ pub fn switch_settings(
     table: &mut LiveTable,
     settings: Settings,
 ) -> Result<SettingsChange, AllocError>
-    ensures { IsSwitch settings table.old table.new result }
+    ensures { IsUndoSwitchMade settings table.old table.new result }
 {
     let back = change_between(alloc, &settings, table.deck().settings())?;
     match table.switch(alloc, settings) {

@@ -2,8 +2,8 @@
 
 ghost use Rattle.std.specs.Prelude.{◌≡◌, ◌≤◌, length, take, drop, OnOk};
 ghost use Rattle.std.specs.Bool.{OnTrue};
-ghost use Rattle.units_io.specs.NamedValues.{HasDistinctNames};
-ghost use Rattle.edit_history.specs.VarsParts.{IsSamePair, pairs_between, with_pairs};
+ghost use Rattle.units_io.specs.NamedValues.{HasDistinctTextNames};
+ghost use Rattle.edit_history.specs.VarsParts.{IsSameHistoryPair, history_pairs_between, history_with_pairs};
 
 use std::alloc::{AllocError, Global};
 use units_io::{Text, Vars};
@@ -33,7 +33,7 @@ pub fn differing_ends(vars: &Vars, others: &Vars, front: usize) -> Ends
     requires { front ≤ length others.now }
     ensures same { drop result.in_vars vars.now ≡ drop result.in_others others.now }
     ensures behind { front ≤ result.in_others }
-    ensures distinct { HasDistinctNames others.now }
+    ensures distinct { HasDistinctTextNames others.now }
 {
     let mut in_vars = vars.len();
     let mut in_others = others.len();
@@ -56,7 +56,7 @@ pub fn copy_pairs(
     first: usize,
     end: usize,
 ) -> Result<(), AllocError>
-    ensures { OnOk result (copies.new ≡ with_pairs copies.old (pairs_between first end vars.now)) }
+    ensures { OnOk result (copies.new ≡ history_with_pairs copies.old (history_pairs_between first end vars.now)) }
 {
     for i in first..end {
         let Some((name, value)) = vars.get(i) else {
@@ -71,7 +71,7 @@ pub fn copy_pairs(
 
 // Returns whether the pair at place `i` of `vars` equals the pair at place `j` of `others`.
 fn is_same_pair(vars: &Vars, i: usize, others: &Vars, j: usize) -> bool
-    ensures { OnTrue result (IsSamePair vars.now i others.now j) }
+    ensures { OnTrue result (IsSameHistoryPair vars.now i others.now j) }
 {
     let Some((name, value)) = vars.get(i) else {
         return false;

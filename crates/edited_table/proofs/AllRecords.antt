@@ -9,51 +9,52 @@ use Rattle.csv.specs.declared.parser.Config.{Config}
 use Rattle.csv.specs.declared.parser.State.{State}
 use Rattle.csv.specs.declared.parser.State.TheVariants as parser
 use Rattle.column_convert.specs.Blocks.{first_records}
-use Rattle.column_convert.specs.Inputs.{Input, input_of}
-use Rattle.column_convert.specs.Records.{Fields}
+use Rattle.column_convert.specs.Inputs.{ColumnInput, column_input_of_text}
+use Rattle.column_convert.specs.Records.{RecordFields}
 
 -- if at most `n` records follow a record, there are at most `n + 1` with it
-few_next : (n : ℕ) (more : State → List ℕ → List Fields) (read : Option Read)
+few_records_follow : (n : ℕ) (more : State → List ℕ → List RecordFields) (read : Option Read)
     → ((state : State) (text : List ℕ) → length (more state text) ≤ n) → length (records_next more read) ≤ suc n
-few_next n more None few = omega arith
-few_next n more (Some read) few = omega (arith, few read.1 read.2)
+few_records_follow n more None few = omega arith
+few_records_follow n more (Some read) few = omega (arith, few read.1 read.2)
 
-few : (config : Config) (n : ℕ) (state : State) (text : List ℕ) → length (records_from config n state text) ≤ n
+few_records : (config : Config) (n : ℕ) (state : State) (text : List ℕ) → length (records_from config n state text) ≤ n
 unfolding records_from
-few config zero state text = omega arith
-few config (suc n) state text =
-    few_next n (records_from config n) (next_record config state [] [] text) (few config n)
+few_records config zero state text = omega arith
+few_records config (suc n) state text =
+    few_records_follow n (records_from config n) (next_record config state [] [] text) (few_records config n)
 
 -- a text without its byte order mark is no longer than the text
-no_longer : (text : List ℕ) → length (strip_bom text) ≤ length text
+stripped_text_is_no_longer : (text : List ℕ) → length (strip_bom text) ≤ length text
 unfolding strip_bom
-no_longer [] = omega arith
-no_longer (a ∷ []) = omega arith
-no_longer (a ∷ b ∷ []) = omega arith
-no_longer (a ∷ b ∷ c ∷ rest) = go (is_bom a b c)
+stripped_text_is_no_longer [] = omega arith
+stripped_text_is_no_longer (a ∷ []) = omega arith
+stripped_text_is_no_longer (a ∷ b ∷ []) = omega arith
+stripped_text_is_no_longer (a ∷ b ∷ c ∷ rest) = go (is_bom a b c)
   where
     go : (is : Bool) → length (if is then rest else a ∷ b ∷ c ∷ rest) ≤ length (a ∷ b ∷ c ∷ rest)
     go true = omega arith
     go false = omega arith
 
-pub all_first : (text : List ℕ) (number : ℕ) (header : Bool) (most : ℕ) → most ≡ length text + 1
-    → first_records most (input_of text number header) ≡ input_of text number header
-all_first text number header most is =
-    let all : Input = input_of text number header in
-    ap (λ (left : List Fields). record { records = left; place = all.place; has_header = all.has_header })
+pub first_records_are_all : (text : List ℕ) (number : ℕ) (header : Bool) (most : ℕ) → most ≡ length text + 1
+    → first_records most (column_input_of_text text number header) ≡ column_input_of_text text number header
+first_records_are_all text number header most is =
+    let all : ColumnInput = column_input_of_text text number header in
+    ap (λ (left : List RecordFields). record { records = left; place = all.place; has_header = all.has_header })
     (take_all most all.records
     (omega (
       arith,
       is,
-      no_longer text,
-      few default_config (length (strip_bom text) + 1) parser.StartRecord (strip_bom text),
+      stripped_text_is_no_longer text,
+      few_records default_config (length (strip_bom text) + 1) parser.StartRecord (strip_bom text),
     )))
 
 -- the first records of a copy of the text are all of its records
-pub copy_first : (text copy : List ℕ) (number : ℕ) (header : Bool) (most : ℕ) (columns : Input) → copy ≡ text
-    → columns ≡ input_of copy number header → most ≡ length text + 1
-    → first_records most columns ≡ input_of text number header
-copy_first text copy number header most columns same is enough =
+pub first_records_of_copy_are_all : (text copy : List ℕ) (number : ℕ) (header : Bool) (most : ℕ) (columns : ColumnInput)
+    → copy ≡ text
+    → columns ≡ column_input_of_text copy number header → most ≡ length text + 1
+    → first_records most columns ≡ column_input_of_text text number header
+first_records_of_copy_are_all text copy number header most columns same is enough =
     ap (first_records most) is
-    ∙ ap (λ (t : List ℕ). first_records most (input_of t number header)) same
-    ∙ all_first text number header most enough
+    ∙ ap (λ (t : List ℕ). first_records most (column_input_of_text t number header)) same
+    ∙ first_records_are_all text number header most enough

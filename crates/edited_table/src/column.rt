@@ -1,11 +1,11 @@
 //! Conversion of one column of a text of records.
 
 ghost use Rattle.std.specs.Prelude.{◌≡◌, ◌<◌, ◌≤◌, IfOk};
-ghost use Rattle.column_convert.specs.Blocks.{block_of};
-ghost use Rattle.column_convert.specs.Inputs.{input_of};
+ghost use Rattle.column_convert.specs.Blocks.{block_of_rows};
+ghost use Rattle.column_convert.specs.Inputs.{column_input_of_text};
 ghost use Rattle.column_convert.specs.Rows as spec;
 ghost use Rattle.deck.specs.Tables as tables;
-ghost use Rattle.reply.specs.Options.{IsPrintable};
+ghost use Rattle.reply.specs.Options.{AreReplyOptionsPrintable};
 
 use crate::edited_table::EditedTable;
 use column_convert::{Block, Columns};
@@ -36,12 +36,12 @@ impl EditedTable {
         column: &Column<'_>,
         text: &[u8],
     ) -> Result<Block, AllocError>
-        requires printable { IsPrintable column.now.question.options.now }
+        requires printable { AreReplyOptionsPrintable column.now.question.options.now }
         requires number { 1 ≤ column.now.number }
-        ensures block { IfOk result (λ block. block ≡ block_of
-            (spec.rows (tables.table self.old.table.deck) column.now.question.options.now
+        ensures block { IfOk result (λ block. block ≡ block_of_rows
+            (spec.rows (tables.table_of_deck self.old.table.deck) column.now.question.options.now
             column.now.question.from.now column.now.question.to.now
-            (input_of text.now column.now.number column.now.has_header))) }
+            (column_input_of_text text.now column.now.number column.now.has_header))) }
         ensures deck { self.new.table.deck ≡ self.old.table.deck }
         ensures history { self.new.history ≡ self.old.history }
     {
@@ -60,11 +60,11 @@ fn counted_column<L: Ledger>(
     requires name { blank.name ≡ L.name }
     requires parts { blank.parts ≡ L.parts }
     requires some { 0 < blank.parts }
-    requires printable { IsPrintable column.now.question.options.now }
+    requires printable { AreReplyOptionsPrintable column.now.question.options.now }
     requires number { 1 ≤ column.now.number }
-    ensures block { IfOk result (λ block. block ≡ block_of
-        (spec.rows (tables.table table.old.deck) column.now.question.options.now column.now.question.from.now
-        column.now.question.to.now (input_of text.now column.now.number column.now.has_header))) }
+    ensures block { IfOk result (λ block. block ≡ block_of_rows
+        (spec.rows (tables.table_of_deck table.old.deck) column.now.question.options.now column.now.question.from.now
+        column.now.question.to.now (column_input_of_text text.now column.now.number column.now.has_header))) }
     ensures deck { table.new.deck ≡ table.old.deck }
 {
     // A text has at most one record per byte, plus an empty last one.

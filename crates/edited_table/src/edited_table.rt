@@ -1,7 +1,7 @@
 //! A live table and its edit history.
 
 ghost use Rattle.std.specs.Prelude.{◌≡◌};
-ghost use Rattle.edited_table.specs.TableValue.{table_without_edits};
+ghost use Rattle.edited_table.specs.TableValue.{edited_table_without_edits};
 
 use deck::Deck;
 use edit_history::History;
@@ -27,11 +27,11 @@ impl Drop for EditedTable {
 
 impl Model for EditedTable {
     ghost use Rattle.edit_history.specs.Histories.{IsHistoryOf};
-    ghost use Rattle.edited_table.specs.TableValue.{Edited, edited_code};
+    ghost use Rattle.edited_table.specs.TableValue.{EditedTableView, edited_table_code};
 
-    ghost Value = { Edited };
+    ghost Value = { EditedTableView };
 
-    ghost coded = { edited_code };
+    ghost coded = { edited_table_code };
 
     ghost view = { λ e. record { table = e.table; history = e.history } };
 
@@ -41,7 +41,7 @@ impl Model for EditedTable {
 impl EditedTable {
     /// Returns a table over `deck` with no name settled and no edit made. Does not allocate.
     pub fn new(alloc: Global, deck: Deck) -> EditedTable
-        ensures { result ≡ table_without_edits deck }
+        ensures { result ≡ edited_table_without_edits deck }
     {
         EditedTable {
             table: LiveTable::new(alloc, deck),

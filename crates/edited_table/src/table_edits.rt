@@ -1,7 +1,7 @@
 //! Edits, undo and redo. A refused edit changes nothing, even if the reason is lack of memory.
 
 ghost use Rattle.std.specs.Prelude.{◌≡◌};
-ghost use Rattle.def_lines.specs.Blanks.{trim_of};
+ghost use Rattle.def_lines.specs.Blanks.{trimmed_of_blanks};
 ghost use Rattle.deck.specs.Edits as deck_edit;
 ghost use Rattle.edit_history.specs.Calls as calls;
 ghost use Rattle.edit_history.specs.declared.fault.HistoryFault.TheVariants.{NothingToRedo, NothingToUndo};
@@ -16,18 +16,21 @@ use std::alloc::Global;
 impl EditedTable {
     /// Appends the definition in `line` to the deck. The errors are those of `LiveTable::define`.
     pub fn define(&mut self, alloc: Global, line: &[u8]) -> Result<(), DeckFault>
-        ensures edit { edit.IsEditOf (deck_edit.after_define (trim_of line.now) self.old.table.deck)
+        ensures edit { edit.IsLiveEditOf
+            (deck_edit.deck_after_defining (trimmed_of_blanks line.now) self.old.table.deck)
             self.old.table self.new.table result }
-        ensures noted { calls.IsNoted self.old.history self.new.history self.old.table.deck self.new.table.deck result }
+        ensures noted { calls.IsEditRecorded self.old.history self.new.history self.old.table.deck self.new.table.deck
+            result }
     {
         self.history.define(alloc, &mut self.table, line)
     }
 
     /// Removes the last active definition of `key`. The errors are those of `LiveTable::drop_last`.
     pub fn drop_last(&mut self, alloc: Global, key: &Key) -> Result<(), DeckFault>
-        ensures edit { edit.IsEditOf (deck_edit.after_drop key.now self.old.table.deck)
+        ensures edit { edit.IsLiveEditOf (deck_edit.deck_after_dropping key.now self.old.table.deck)
             self.old.table self.new.table result }
-        ensures noted { calls.IsNoted self.old.history self.new.history self.old.table.deck self.new.table.deck result }
+        ensures noted { calls.IsEditRecorded self.old.history self.new.history self.old.table.deck self.new.table.deck
+            result }
     {
         self.history.drop_last(alloc, &mut self.table, key)
     }
@@ -42,8 +45,8 @@ impl EditedTable {
 
     /// Redoes the last undone edit. Fails with `NothingToRedo` if there is none, or if an edit followed the undo.
     pub fn redo(&mut self, alloc: Global) -> Result<(), HistoryFault>
-        ensures { calls.IsUndone NothingToRedo (calls.swapped_stacks self.old.history)
-            (calls.swapped_stacks self.new.history)
+        ensures { calls.IsUndone NothingToRedo (calls.swapped_undo_stacks self.old.history)
+            (calls.swapped_undo_stacks self.new.history)
             self.old.table self.new.table result }
     {
         self.history.redo(alloc, &mut self.table)

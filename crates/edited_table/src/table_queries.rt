@@ -2,7 +2,7 @@
 
 ghost use Rattle.std.specs.Prelude.{◌≡◌, ◌<◌, IfOk};
 ghost use Rattle.deck.specs.Tables as tables;
-ghost use Rattle.reply.specs.Options.{IsPrintable};
+ghost use Rattle.reply.specs.Options.{AreReplyOptionsPrintable};
 ghost use Rattle.reply.specs.Replies as replies;
 
 use crate::edited_table::EditedTable;
@@ -22,9 +22,9 @@ impl EditedTable {
         from: &[u8],
         to: &[u8],
     ) -> Result<Reply, AllocError>
-        requires { IsPrintable options.now }
+        requires { AreReplyOptionsPrintable options.now }
         ensures reply { IfOk result (λ reply.
-            reply ≡ replies.conversion_reply (tables.table self.old.table.deck) options.now from.now to.now) }
+            reply ≡ replies.conversion_reply (tables.table_of_deck self.old.table.deck) options.now from.now to.now) }
         ensures deck { self.new.table.deck ≡ self.old.table.deck }
         ensures history { self.new.history ≡ self.old.history }
     {
@@ -39,9 +39,9 @@ impl EditedTable {
         options: &Options,
         expression: &[u8],
     ) -> Result<FromValue, AllocError>
-        requires { IsPrintable options.now }
+        requires { AreReplyOptionsPrintable options.now }
         ensures value { IfOk result (λ value.
-            value ≡ replies.from_value (tables.table self.old.table.deck) options.now expression.now) }
+            value ≡ replies.from_value (tables.table_of_deck self.old.table.deck) options.now expression.now) }
         ensures deck { self.new.table.deck ≡ self.old.table.deck }
         ensures history { self.new.history ≡ self.old.history }
     {
@@ -59,8 +59,8 @@ fn counted_conversion<L: Ledger>(
     requires name { blank.name ≡ L.name }
     requires parts { blank.parts ≡ L.parts }
     requires some { 0 < blank.parts }
-    requires printable { IsPrintable question.now.options.now }
-    ensures reply { IfOk result (λ reply. reply ≡ replies.conversion_reply (tables.table table.old.deck)
+    requires printable { AreReplyOptionsPrintable question.now.options.now }
+    ensures reply { IfOk result (λ reply. reply ≡ replies.conversion_reply (tables.table_of_deck table.old.deck)
         question.now.options.now question.now.from.now question.now.to.now) }
     ensures deck { table.new.deck ≡ table.old.deck }
 {
@@ -80,9 +80,9 @@ fn counted_value<L: Ledger>(
     requires name { blank.name ≡ L.name }
     requires parts { blank.parts ≡ L.parts }
     requires some { 0 < blank.parts }
-    requires printable { IsPrintable options.now }
+    requires printable { AreReplyOptionsPrintable options.now }
     ensures value { IfOk result (λ value.
-        value ≡ replies.from_value (tables.table table.old.deck) options.now expression.now) }
+        value ≡ replies.from_value (tables.table_of_deck table.old.deck) options.now expression.now) }
     ensures deck { table.new.deck ≡ table.old.deck }
 {
     let mut steps: Steps<L> = Steps::new(blank);

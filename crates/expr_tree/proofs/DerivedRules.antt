@@ -1,21 +1,17 @@
 -- The derivation of each rule, made from those of its parts.
-use Rattle.std.proofs.Common.{◌≡◌, ℕ, suc, ◌<◌, ◌≤◌, Bool, true, List, [], ◌∷◌, length, refl}
-use Rattle.std.proofs.Common.{◌∙◌, ap, arith}
-use Rattle.frac128.specs.Decimals.{Decimal}
-use Rattle.expr_tree.specs.Grammar.{SumOf, NextTerm, ProductOf, NextFactor}
-use Rattle.expr_tree.specs.Grammar.{Signed, JuxtapositionOf, NextPower, Bare, Raised, SignedExponent}
-use Rattle.expr_tree.specs.Grammar.{ExponentOf}
-use Rattle.expr_tree.specs.Grammar.{NumeralAtom, BarAtom, CallAtom, InverseAtom, RootAtom}
-use Rattle.expr_tree.specs.Grammar.{GroupAtom}
-use Rattle.expr_tree.specs.Grammar.{sign_token, scale_token, sum, sum_rest, product, product_rest, juxtaposition}
-use Rattle.expr_tree.specs.Grammar.{juxtaposition_rest, power, exponent_tokens, atom}
+use Rattle.std.proofs.Common.{◌≡◌, ℕ, suc, ◌<◌, ◌≤◌, Bool, true, List, [], ◌∷◌, length, refl, ◌∙◌, ap, arith}
+use Rattle.frac128.specs.Decimals.{NumeralDecimal}
+use Rattle.expr_tree.specs.Grammar.{SumOf, NextTerm, ProductOf, NextFactor, Signed, JuxtapositionOf, NextPower, Bare}
+use Rattle.expr_tree.specs.Grammar.{Raised, SignedExponent, ExponentOf, NumeralAtom, BarAtom, CallAtom, InverseAtom}
+use Rattle.expr_tree.specs.Grammar.{RootAtom, GroupAtom, sign_token, scale_token, sum, sum_rest, product, product_rest}
+use Rattle.expr_tree.specs.Grammar.{juxtaposition, juxtaposition_rest, power, exponent_tokens, atom}
 use Rattle.expr_tree.specs.Rules.{WantsOperand, EndsOperand, EndsNumeral, tokens_fit}
-use Rattle.expr_tree.specs.Tokens.{Token, Numeral, Head, Root, Bar}
-use Rattle.expr_tree.specs.Tokens.{Caret, Tilde, Open, Close}
+use Rattle.expr_tree.specs.Tokens.{Token, Numeral, Head, Root, Bar, Caret, Tilde, Open, Close}
 use Rattle.expr_tree.specs.declared.operator.Scale.{Scale}
 use Rattle.expr_tree.specs.declared.operator.Sign.{Sign}
-use Rattle.expr_tree.specs.Front.{stops, after_sum, after_product, after_juxtaposition, after_power, after_atom}
-use Rattle.expr_tree.proofs.Fits.{closing, ended_stops}
+use Rattle.expr_tree.specs.Front.{tokens_stop, token_follows_sum, token_follows_product, token_follows_juxtaposition}
+use Rattle.expr_tree.specs.Front.{token_follows_power, token_follows_atom}
+use Rattle.expr_tree.proofs.Fits.{close_paren_after_sum, no_bar_token_after_operand}
 use Rattle.expr_tree.specs.declared.operator.RootKind.{RootKind}
 
 -- a derivation at the front of the tokens, followed by tokens that may follow it and fit
@@ -24,7 +20,7 @@ pub record At {X : Type 0} (spell : X → List Token → List Token) (follow : T
   pub made : X
   pub rest : List Token
   pub is : ts ≡ spell made rest
-  pub stop : stops follow rest ≡ true
+  pub stop : tokens_stop follow rest ≡ true
   pub fit : tokens_fit EndsOperand k rest ≡ true
   pub less : length rest ≤ length ts
 
@@ -34,19 +30,21 @@ pub record Front {X : Type 0} (spell : X → List Token → List Token) (follow 
   pub made : X
   pub rest : List Token
   pub is : ts ≡ spell made rest
-  pub stop : stops follow rest ≡ true
+  pub stop : tokens_stop follow rest ≡ true
   pub fit : tokens_fit EndsOperand k rest ≡ true
   pub less : length rest < length ts
 
 -- ---- each rule of the grammar, made from the derivations of its parts
 
 -- a sum, made from a product and the terms after it
-pub sum_from : (k : ℕ) (ts : List Token) → Front product after_product k ts
-    → ((r : List Token) → length r < length ts → stops after_product r ≡ true → tokens_fit EndsOperand k r ≡ true
-    → At sum_rest after_sum k r) → Front sum after_sum k ts
-sum_from k ts p f = go p (f p.rest p.less p.stop p.fit)
+pub sum_from_tokens : (k : ℕ) (ts : List Token) → Front product token_follows_product k ts
+    → ((r : List Token) → length r < length ts → tokens_stop token_follows_product r ≡ true
+    → tokens_fit EndsOperand k r ≡ true
+    → At sum_rest token_follows_sum k r) → Front sum token_follows_sum k ts
+sum_from_tokens k ts p f = go p (f p.rest p.less p.stop p.fit)
   where
-    go : (p : Front product after_product k ts) → At sum_rest after_sum k p.rest → Front sum after_sum k ts
+    go : (p : Front product token_follows_product k ts) → At sum_rest token_follows_sum k p.rest
+        → Front sum token_follows_sum k ts
     go p q = record {
       made = SumOf p.made q.made;
       rest = q.rest;
@@ -57,13 +55,14 @@ sum_from k ts p f = go p (f p.rest p.less p.stop p.fit)
     }
 
 -- one more term, made from its sign, a product and the terms after it
-pub next_term_from : (s : Sign) (k : ℕ) (ts : List Token) → Front product after_product k ts
-    → ((r : List Token) → length r < length ts → stops after_product r ≡ true → tokens_fit EndsOperand k r ≡ true
-    → At sum_rest after_sum k r) → At sum_rest after_sum k (sign_token s ∷ ts)
-next_term_from s k ts p f = go p (f p.rest p.less p.stop p.fit)
+pub next_term_from_tokens : (s : Sign) (k : ℕ) (ts : List Token) → Front product token_follows_product k ts
+    → ((r : List Token) → length r < length ts → tokens_stop token_follows_product r ≡ true
+    → tokens_fit EndsOperand k r ≡ true
+    → At sum_rest token_follows_sum k r) → At sum_rest token_follows_sum k (sign_token s ∷ ts)
+next_term_from_tokens s k ts p f = go p (f p.rest p.less p.stop p.fit)
   where
-    go : (p : Front product after_product k ts) → At sum_rest after_sum k p.rest
-        → At sum_rest after_sum k (sign_token s ∷ ts)
+    go : (p : Front product token_follows_product k ts) → At sum_rest token_follows_sum k p.rest
+        → At sum_rest token_follows_sum k (sign_token s ∷ ts)
     go p q = record {
       made = NextTerm s p.made q.made;
       rest = q.rest;
@@ -75,13 +74,14 @@ next_term_from s k ts p f = go p (f p.rest p.less p.stop p.fit)
     }
 
 -- a product, made from a juxtaposition and the factors after it
-pub product_from : (k : ℕ) (ts : List Token) → Front juxtaposition after_juxtaposition k ts
-    → ((r : List Token) → length r < length ts → stops after_juxtaposition r ≡ true → tokens_fit EndsOperand k r ≡ true
-    → At product_rest after_product k r) → Front product after_product k ts
-product_from k ts p f = go p (f p.rest p.less p.stop p.fit)
+pub product_from_tokens : (k : ℕ) (ts : List Token) → Front juxtaposition token_follows_juxtaposition k ts
+    → ((r : List Token) → length r < length ts → tokens_stop token_follows_juxtaposition r ≡ true
+    → tokens_fit EndsOperand k r ≡ true
+    → At product_rest token_follows_product k r) → Front product token_follows_product k ts
+product_from_tokens k ts p f = go p (f p.rest p.less p.stop p.fit)
   where
-    go : (p : Front juxtaposition after_juxtaposition k ts) → At product_rest after_product k p.rest
-        → Front product after_product k ts
+    go : (p : Front juxtaposition token_follows_juxtaposition k ts) → At product_rest token_follows_product k p.rest
+        → Front product token_follows_product k ts
     go p q = record {
       made = ProductOf p.made q.made;
       rest = q.rest;
@@ -93,13 +93,15 @@ product_from k ts p f = go p (f p.rest p.less p.stop p.fit)
     }
 
 -- one more factor, made from its operator, a juxtaposition and the factors after it
-pub next_factor_from : (s : Scale) (k : ℕ) (ts : List Token) → Front juxtaposition after_juxtaposition k ts
-    → ((r : List Token) → length r < length ts → stops after_juxtaposition r ≡ true → tokens_fit EndsOperand k r ≡ true
-    → At product_rest after_product k r) → At product_rest after_product k (scale_token s ∷ ts)
-next_factor_from s k ts p f = go p (f p.rest p.less p.stop p.fit)
+pub next_factor_from_tokens : (s : Scale) (k : ℕ) (ts : List Token) → Front juxtaposition token_follows_juxtaposition k
+    ts
+    → ((r : List Token) → length r < length ts → tokens_stop token_follows_juxtaposition r ≡ true
+    → tokens_fit EndsOperand k r ≡ true
+    → At product_rest token_follows_product k r) → At product_rest token_follows_product k (scale_token s ∷ ts)
+next_factor_from_tokens s k ts p f = go p (f p.rest p.less p.stop p.fit)
   where
-    go : (p : Front juxtaposition after_juxtaposition k ts) → At product_rest after_product k p.rest
-        → At product_rest after_product k (scale_token s ∷ ts)
+    go : (p : Front juxtaposition token_follows_juxtaposition k ts) → At product_rest token_follows_product k p.rest
+        → At product_rest token_follows_product k (scale_token s ∷ ts)
     go p q = record {
       made = NextFactor s p.made q.made;
       rest = q.rest;
@@ -111,9 +113,9 @@ next_factor_from s k ts p f = go p (f p.rest p.less p.stop p.fit)
     }
 
 -- a juxtaposition with a sign in front
-pub signed_from : (s : Sign) (k : ℕ) (ts : List Token) → Front juxtaposition after_juxtaposition k ts
-    → Front juxtaposition after_juxtaposition k (sign_token s ∷ ts)
-signed_from s k ts p =
+pub signed_from_tokens : (s : Sign) (k : ℕ) (ts : List Token) → Front juxtaposition token_follows_juxtaposition k ts
+    → Front juxtaposition token_follows_juxtaposition k (sign_token s ∷ ts)
+signed_from_tokens s k ts p =
     record {
       made = Signed s p.made;
       rest = p.rest;
@@ -125,13 +127,14 @@ signed_from s k ts p =
     }
 
 -- a juxtaposition, made from a power and the powers after it
-pub juxtaposition_from : (k : ℕ) (ts : List Token) → Front power after_power k ts
-    → ((r : List Token) → length r < length ts → stops after_power r ≡ true → tokens_fit EndsOperand k r ≡ true
-    → At juxtaposition_rest after_juxtaposition k r) → Front juxtaposition after_juxtaposition k ts
-juxtaposition_from k ts p f = go p (f p.rest p.less p.stop p.fit)
+pub juxtaposition_from_tokens : (k : ℕ) (ts : List Token) → Front power token_follows_power k ts
+    → ((r : List Token) → length r < length ts → tokens_stop token_follows_power r ≡ true
+    → tokens_fit EndsOperand k r ≡ true
+    → At juxtaposition_rest token_follows_juxtaposition k r) → Front juxtaposition token_follows_juxtaposition k ts
+juxtaposition_from_tokens k ts p f = go p (f p.rest p.less p.stop p.fit)
   where
-    go : (p : Front power after_power k ts) → At juxtaposition_rest after_juxtaposition k p.rest
-        → Front juxtaposition after_juxtaposition k ts
+    go : (p : Front power token_follows_power k ts) → At juxtaposition_rest token_follows_juxtaposition k p.rest
+        → Front juxtaposition token_follows_juxtaposition k ts
     go p q = record {
       made = JuxtapositionOf p.made q.made;
       rest = q.rest;
@@ -143,13 +146,14 @@ juxtaposition_from k ts p f = go p (f p.rest p.less p.stop p.fit)
     }
 
 -- one more power, made from the power and the powers after it
-pub next_power_from : (k : ℕ) (ts : List Token) → Front power after_power k ts
-    → ((r : List Token) → length r < length ts → stops after_power r ≡ true → tokens_fit EndsOperand k r ≡ true
-    → At juxtaposition_rest after_juxtaposition k r) → At juxtaposition_rest after_juxtaposition k ts
-next_power_from k ts p f = go p (f p.rest p.less p.stop p.fit)
+pub next_power_from_tokens : (k : ℕ) (ts : List Token) → Front power token_follows_power k ts
+    → ((r : List Token) → length r < length ts → tokens_stop token_follows_power r ≡ true
+    → tokens_fit EndsOperand k r ≡ true
+    → At juxtaposition_rest token_follows_juxtaposition k r) → At juxtaposition_rest token_follows_juxtaposition k ts
+next_power_from_tokens k ts p f = go p (f p.rest p.less p.stop p.fit)
   where
-    go : (p : Front power after_power k ts) → At juxtaposition_rest after_juxtaposition k p.rest
-        → At juxtaposition_rest after_juxtaposition k ts
+    go : (p : Front power token_follows_power k ts) → At juxtaposition_rest token_follows_juxtaposition k p.rest
+        → At juxtaposition_rest token_follows_juxtaposition k ts
     go p q = record {
       made = NextPower p.made q.made;
       rest = q.rest;
@@ -160,19 +164,20 @@ next_power_from k ts p f = go p (f p.rest p.less p.stop p.fit)
     }
 
 -- an atom, with its exponent if a `^` follows
-pub power_from : (k : ℕ) (ts : List Token) → Front atom after_atom k ts
+pub power_from_tokens : (k : ℕ) (ts : List Token) → Front atom token_follows_atom k ts
     → ((r : List Token) → suc (length r) < length ts → tokens_fit WantsOperand k r ≡ true
-    → Front exponent_tokens after_power k r)
-    → Front power after_power k ts
-power_from k ts p f = go p.rest p.is p.fit p.less
+    → Front exponent_tokens token_follows_power k r)
+    → Front power token_follows_power k ts
+power_from_tokens k ts p f = go p.rest p.is p.fit p.less
   where
     go : (r : List Token) → ts ≡ atom p.made r → tokens_fit EndsOperand k r ≡ true → length r < length ts
-        → Front power after_power k ts
+        → Front power token_follows_power k ts
     go [] is fit less = record { made = Bare p.made; rest = []; is = is; stop = refl; fit = fit; less = less }
     go (Caret ∷ r) is fit less = raised is less (f r less fit)
       where
-        raised : ts ≡ atom p.made (Caret ∷ r) → length (Caret ∷ r) < length ts → Front exponent_tokens after_power k r
-            → Front power after_power k ts
+        raised : ts ≡ atom p.made (Caret ∷ r) → length (Caret ∷ r) < length ts
+            → Front exponent_tokens token_follows_power k r
+            → Front power token_follows_power k ts
         raised is less q =
             record {
               made = Raised p.made q.made;
@@ -186,9 +191,9 @@ power_from k ts p f = go p.rest p.is p.fit p.less
     go (t ∷ r) is fit less = record { made = Bare p.made; rest = t ∷ r; is = is; stop = refl; fit = fit; less = less }
 
 -- an exponent with a sign in front
-pub signed_exponent_from : (s : Sign) (k : ℕ) (ts : List Token) → Front exponent_tokens after_power k ts
-    → Front exponent_tokens after_power k (sign_token s ∷ ts)
-signed_exponent_from s k ts p =
+pub signed_exponent_from_tokens : (s : Sign) (k : ℕ) (ts : List Token) → Front exponent_tokens token_follows_power k ts
+    → Front exponent_tokens token_follows_power k (sign_token s ∷ ts)
+signed_exponent_from_tokens s k ts p =
     record {
       made = SignedExponent s p.made;
       rest = p.rest;
@@ -199,17 +204,18 @@ signed_exponent_from s k ts p =
     }
 
 -- an exponent that is a power
-pub exponent_from : (k : ℕ) (ts : List Token) → Front power after_power k ts → Front exponent_tokens after_power k ts
-exponent_from k ts p =
+pub exponent_from_tokens : (k : ℕ) (ts : List Token) → Front power token_follows_power k ts
+    → Front exponent_tokens token_follows_power k ts
+exponent_from_tokens k ts p =
     record { made = ExponentOf p.made; rest = p.rest; is = p.is; stop = p.stop; fit = p.fit; less = p.less }
 
 -- a call, made from a sum and its `)`
-pub call_from : (w : List ℕ) (k : ℕ) (ts : List Token) → Front sum after_sum (suc k) ts
-    → Front atom after_atom k (Head w ∷ ts)
-call_from w k ts p = go (closing k p.rest p.stop p.fit)
+pub call_from_tokens : (w : List ℕ) (k : ℕ) (ts : List Token) → Front sum token_follows_sum (suc k) ts
+    → Front atom token_follows_atom k (Head w ∷ ts)
+call_from_tokens w k ts p = go (close_paren_after_sum k p.rest p.stop p.fit)
   where
     go : ((s : List Token) × (p.rest ≡ Close ∷ s) × (tokens_fit EndsOperand k s ≡ true))
-        → Front atom after_atom k (Head w ∷ ts)
+        → Front atom token_follows_atom k (Head w ∷ ts)
     go c =
         let e : length p.rest ≡ suc (length c.0) = ap length c.1 in
         record {
@@ -217,18 +223,18 @@ call_from w k ts p = go (closing k p.rest p.stop p.fit)
           rest = c.0;
           is = ap (λ x. Head w ∷ x) (p.is ∙ ap (sum p.made) c.1);
           stop =
-              ended_stops k c.0 c.2;
+              no_bar_token_after_operand k c.0 c.2;
           fit = c.2;
           less = omega arith;
         }
 
 -- an inverse, made from a sum and its `)`
-pub inverse_from : (w : List ℕ) (k : ℕ) (ts : List Token) → Front sum after_sum (suc k) ts
-    → Front atom after_atom k (Tilde ∷ Head w ∷ ts)
-inverse_from w k ts p = go (closing k p.rest p.stop p.fit)
+pub inverse_from_tokens : (w : List ℕ) (k : ℕ) (ts : List Token) → Front sum token_follows_sum (suc k) ts
+    → Front atom token_follows_atom k (Tilde ∷ Head w ∷ ts)
+inverse_from_tokens w k ts p = go (close_paren_after_sum k p.rest p.stop p.fit)
   where
     go : ((s : List Token) × (p.rest ≡ Close ∷ s) × (tokens_fit EndsOperand k s ≡ true))
-        → Front atom after_atom k (Tilde ∷ Head w ∷ ts)
+        → Front atom token_follows_atom k (Tilde ∷ Head w ∷ ts)
     go c =
         let e : length p.rest ≡ suc (length c.0) = ap length c.1 in
         record {
@@ -236,47 +242,57 @@ inverse_from w k ts p = go (closing k p.rest p.stop p.fit)
           rest = c.0;
           is =
               ap (λ x. Tilde ∷ Head w ∷ x) (p.is ∙ ap (sum p.made) c.1);
-          stop = ended_stops k c.0 c.2;
+          stop = no_bar_token_after_operand k c.0 c.2;
           fit = c.2;
           less =
               omega arith;
         }
 
 -- a root, made from a sum and its `)`
-pub root_from : (n : RootKind) (k : ℕ) (ts : List Token) → Front sum after_sum (suc k) ts
-    → Front atom after_atom k (Root n ∷ Open ∷ ts)
-root_from n k ts p = go (closing k p.rest p.stop p.fit)
+pub root_from_tokens : (n : RootKind) (k : ℕ) (ts : List Token) → Front sum token_follows_sum (suc k) ts
+    → Front atom token_follows_atom k (Root n ∷ Open ∷ ts)
+root_from_tokens n k ts p = go (close_paren_after_sum k p.rest p.stop p.fit)
   where
     go : ((s : List Token) × (p.rest ≡ Close ∷ s) × (tokens_fit EndsOperand k s ≡ true))
-        → Front atom after_atom k (Root n ∷ Open ∷ ts)
+        → Front atom token_follows_atom k (Root n ∷ Open ∷ ts)
     go c =
         let e : length p.rest ≡ suc (length c.0) = ap length c.1 in
         record {
           made = RootAtom n p.made;
           rest = c.0;
           is = ap (λ x. Root n ∷ Open ∷ x) (p.is ∙ ap (sum p.made) c.1);
-          stop = ended_stops k c.0 c.2;
+          stop = no_bar_token_after_operand k c.0 c.2;
           fit = c.2;
           less = omega arith;
         }
 
 -- a numeral, with its denominator if a `|` follows
-pub numeral_from : (m : Decimal) (k : ℕ) (ts : List Token) → tokens_fit EndsNumeral k ts ≡ true
-    → Front atom after_atom k (Numeral m ∷ ts)
-numeral_from m k [] h = record { made = NumeralAtom m; rest = []; is = refl; stop = refl; fit = h; less = omega arith }
-numeral_from m k (Bar ∷ Numeral d ∷ ts) h =
-    record { made = BarAtom m d; rest = ts; is = refl; stop = ended_stops k ts h; fit = h; less = omega arith }
-numeral_from m k (Bar ∷ []) h = cc
-numeral_from m k (Bar ∷ t ∷ ts) h = cc
-numeral_from m k (t ∷ ts) h =
+pub numeral_from_tokens : (m : NumeralDecimal) (k : ℕ) (ts : List Token) → tokens_fit EndsNumeral k ts ≡ true
+    → Front atom token_follows_atom k (Numeral m ∷ ts)
+numeral_from_tokens m k [] h =
+    record { made = NumeralAtom m; rest = []; is = refl; stop = refl; fit = h; less = omega arith }
+numeral_from_tokens m k (Bar ∷ Numeral d ∷ ts) h =
+    record {
+      made = BarAtom m d;
+      rest = ts;
+      is = refl;
+      stop = no_bar_token_after_operand k ts h;
+      fit = h;
+      less =
+          omega arith;
+    }
+numeral_from_tokens m k (Bar ∷ []) h = cc
+numeral_from_tokens m k (Bar ∷ t ∷ ts) h = cc
+numeral_from_tokens m k (t ∷ ts) h =
     record { made = NumeralAtom m; rest = t ∷ ts; is = refl; stop = refl; fit = h; less = omega arith }
 
 -- a group, made from a sum and its `)`
-pub group_from : (k : ℕ) (ts : List Token) → Front sum after_sum (suc k) ts → Front atom after_atom k (Open ∷ ts)
-group_from k ts p = go (closing k p.rest p.stop p.fit)
+pub group_from_tokens : (k : ℕ) (ts : List Token) → Front sum token_follows_sum (suc k) ts
+    → Front atom token_follows_atom k (Open ∷ ts)
+group_from_tokens k ts p = go (close_paren_after_sum k p.rest p.stop p.fit)
   where
     go : ((s : List Token) × (p.rest ≡ Close ∷ s) × (tokens_fit EndsOperand k s ≡ true))
-        → Front atom after_atom k (Open ∷ ts)
+        → Front atom token_follows_atom k (Open ∷ ts)
     go c =
         let e : length p.rest ≡ suc (length c.0) = ap length c.1 in
         record {
@@ -284,7 +300,7 @@ group_from k ts p = go (closing k p.rest p.stop p.fit)
           rest = c.0;
           is = ap (λ x. Open ∷ x) (p.is ∙ ap (sum p.made) c.1);
           stop =
-              ended_stops k c.0 c.2;
+              no_bar_token_after_operand k c.0 c.2;
           fit = c.2;
           less = omega arith;
         }

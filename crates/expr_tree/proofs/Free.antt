@@ -4,22 +4,20 @@ use Rattle.std.proofs.lemmas.Bool.{or_from}
 use Rattle.expr_tree.specs.declared.operator.Sign.{Sign}
 use Rattle.expr_tree.specs.declared.operator.Sign.TheVariants as signs
 use Rattle.expr_tree.specs.Grammar.{Sum, SumOf, SumRest, NoTerm, NextTerm, Product, ProductOf, ProductRest, NoFactor}
-use Rattle.expr_tree.specs.Grammar.{NextFactor}
-use Rattle.expr_tree.specs.Grammar.{Juxtaposition, Signed, JuxtapositionOf, JuxtapositionRest, NoPower, NextPower}
-use Rattle.expr_tree.specs.Grammar.{Power, Bare, Raised, Exponent, SignedExponent, ExponentOf}
-use Rattle.expr_tree.specs.Grammar.{Atom, NumeralAtom, BarAtom, WordAtom, PowerAtom, CallAtom, InverseAtom, RootAtom}
-use Rattle.expr_tree.specs.Grammar.{GroupAtom}
-use Rattle.expr_tree.specs.Grammar.{sum_tree, terms, product_tree, juxtaposition_tree, members, power_tree}
-use Rattle.expr_tree.specs.Grammar.{rest_factors}
-use Rattle.expr_tree.specs.Grammar.{exponent_tree, atom_tree, signed_syntax, GivesTree}
+use Rattle.expr_tree.specs.Grammar.{NextFactor, Juxtaposition, Signed, JuxtapositionOf, JuxtapositionRest, NoPower}
+use Rattle.expr_tree.specs.Grammar.{NextPower, Power, Bare, Raised, Exponent, SignedExponent, ExponentOf, Atom}
+use Rattle.expr_tree.specs.Grammar.{NumeralAtom, BarAtom, WordAtom, PowerAtom, CallAtom, InverseAtom, RootAtom}
+use Rattle.expr_tree.specs.Grammar.{GroupAtom, sum_tree, terms, product_tree, juxtaposition_tree, members, power_tree}
+use Rattle.expr_tree.specs.Grammar.{rest_factors, exponent_tree, atom_tree, signed_syntax, TokensGiveTree}
 use Rattle.expr_tree.specs.Syntax.{Syntax}
 use Rattle.expr_tree.specs.Tokens.{Token}
 use Rattle.expr_tree.specs.Arguments.{holds_argument, members_hold, factors_hold, terms_hold}
 
 -- a sign adds no argument
-free-signed : (s : Sign) (e : Syntax) → holds_argument e ≡ false → holds_argument (signed_syntax s e) ≡ false
-free-signed signs.Plus e h = h
-free-signed signs.Minus e h = h
+signed_syntax-adds-no-argument : (s : Sign) (e : Syntax) → holds_argument e ≡ false
+    → holds_argument (signed_syntax s e) ≡ false
+signed_syntax-adds-no-argument signs.Plus e h = h
+signed_syntax-adds-no-argument signs.Minus e h = h
 
 mutual
   free-sum : (d : Sum) → holds_argument (sum_tree None d) ≡ false
@@ -40,7 +38,7 @@ mutual
   free-factors (NextFactor s j js) = or_from _ _ (free-juxtaposition j) (free-factors js)
 
   free-juxtaposition : (j : Juxtaposition) → holds_argument (juxtaposition_tree None j) ≡ false
-  free-juxtaposition (Signed s j) = free-signed s _ (free-juxtaposition j)
+  free-juxtaposition (Signed s j) = signed_syntax-adds-no-argument s _ (free-juxtaposition j)
   free-juxtaposition (JuxtapositionOf p NoPower) = free-power p
   free-juxtaposition (JuxtapositionOf p (NextPower q qs)) =
       or_from _ _ (free-power p) (or_from _ _ (free-power q) (free-members qs))
@@ -54,7 +52,7 @@ mutual
   free-power (Raised a e) = or_from _ _ (free-atom a) (free-exponent e)
 
   free-exponent : (e : Exponent) → holds_argument (exponent_tree None e) ≡ false
-  free-exponent (SignedExponent s e) = free-signed s _ (free-exponent e)
+  free-exponent (SignedExponent s e) = signed_syntax-adds-no-argument s _ (free-exponent e)
   free-exponent (ExponentOf p) = free-power p
 
   free-atom : (a : Atom) → holds_argument (atom_tree None a) ≡ false
@@ -68,5 +66,6 @@ mutual
   free-atom (GroupAtom d) = free-sum d
 
 -- the tree that tokens give without a binder contains no argument
-pub free : (ts : List Token) (e : Syntax) → GivesTree None ts e → holds_argument e ≡ false
-free ts e g = ap holds_argument g.2 ∙ free-sum g.0
+pub tokens-give-argument-free-tree : (ts : List Token) (e : Syntax) → TokensGiveTree None ts e
+    → holds_argument e ≡ false
+tokens-give-argument-free-tree ts e g = ap holds_argument g.2 ∙ free-sum g.0

@@ -1,149 +1,171 @@
 -- Each rule of the grammar, given the tokens at the front.
 use Rattle.std.proofs.Common.{◌≡◌, ℕ, suc, true, false, List, [], ◌∷◌, Option, None, refl, ◌∙◌, ap, subst}
-use Rattle.frac128.specs.Decimals.{Decimal}
+use Rattle.frac128.specs.Decimals.{NumeralDecimal}
 use Rattle.expr_tree.specs.declared.operator.Sign.{Sign}
 use Rattle.expr_tree.specs.declared.operator.Sign.TheVariants as signs
-use Rattle.expr_tree.specs.Front.{IsFront, JuxtapositionAt, PowerAt, ExponentAt, AtomAt, IsSumInParens}
-use Rattle.expr_tree.specs.Front.{first_caret, first_denominator, stops, after_sum, after_power}
-use Rattle.expr_tree.specs.Front.{after_atom}
+use Rattle.expr_tree.specs.Front.{IsTreeAtFront, JuxtapositionTreeAt, PowerTreeAt, ExponentTreeAt, AtomTreeAt}
+use Rattle.expr_tree.specs.Front.{IsSumInParens, first_token_is_caret, first_token_denominator, tokens_stop}
+use Rattle.expr_tree.specs.Front.{token_follows_sum, token_follows_power, token_follows_atom}
 use Rattle.expr_tree.specs.Grammar.{Signed, Bare, Raised, SignedExponent, ExponentOf, NumeralAtom, BarAtom, WordAtom}
 use Rattle.expr_tree.specs.Grammar.{PowerAtom, CallAtom, InverseAtom, RootAtom, GroupAtom}
-use Rattle.expr_tree.specs.Grammar.{sign_token, sum, sum_tree, atom, word, call, signed_syntax}
+use Rattle.expr_tree.specs.Grammar.{sign_token, sum, sum_tree, atom, word_syntax, call_syntax, signed_syntax}
 use Rattle.expr_tree.specs.Rules.{WantsOperand, EndsOperand, EndsNumeral, tokens_fit}
 use Rattle.expr_tree.specs.Syntax.{Syntax}
 use Rattle.expr_tree.specs.Syntax as tree
 use Rattle.expr_tree.specs.Tokens.{Token, Numeral, Word, WordWithPower, Head, Root, Plus, Minus, Bar}
 use Rattle.expr_tree.specs.Tokens.{Caret, Tilde, Open, Close}
-use Rattle.expr_tree.proofs.Fits.{ended_stops}
+use Rattle.expr_tree.proofs.Fits.{no_bar_token_after_operand}
 use Rattle.expr_tree.specs.declared.operator.RootKind.{RootKind}
 
 -- tokens that are equal to tokens that fit, fit
-fit_as : (k : ℕ) (x y : List Token) → x ≡ y → tokens_fit WantsOperand k x ≡ true → tokens_fit WantsOperand k y ≡ true
-fit_as k x y e h = subst (λ z. tokens_fit WantsOperand k z ≡ true) e h
+equal_tokens_fit : (k : ℕ) (x y : List Token) → x ≡ y → tokens_fit WantsOperand k x ≡ true
+    → tokens_fit WantsOperand k y ≡ true
+equal_tokens_fit k x y e h = subst (λ z. tokens_fit WantsOperand k z ≡ true) e h
 
 -- a word at the front is an atom
-pub word_front : (b : Option (List ℕ)) (k : ℕ) (w : List ℕ) (x y : List Token) (e : Syntax) → x ≡ Word w ∷ y
-    → tokens_fit WantsOperand k x ≡ true → e ≡ word b w → AtomAt b k x e y
-word_front b k w x y e is h says =
-    let f : tokens_fit EndsOperand k y ≡ true = fit_as k x _ is h in
-    record { front_part = WordAtom w; tokens_split = is; tree_of_part = says; stop = ended_stops k y f; fit = f }
+pub word_token_is_atom : (b : Option (List ℕ)) (k : ℕ) (w : List ℕ) (x y : List Token) (e : Syntax) → x ≡ Word w ∷ y
+    → tokens_fit WantsOperand k x ≡ true → e ≡ word_syntax b w → AtomTreeAt b k x e y
+word_token_is_atom b k w x y e is h says =
+    let f : tokens_fit EndsOperand k y ≡ true = equal_tokens_fit k x _ is h in
+    record {
+      front_part = WordAtom w;
+      tokens_split = is;
+      tree_of_part = says;
+      stop =
+          no_bar_token_after_operand k y f;
+      fit = f;
+    }
 
 -- a word with a power at the front is an atom
-pub word_power_front : (b : Option (List ℕ)) (k : ℕ) (w : List ℕ) (n : Decimal) (x y : List Token) (c e : Syntax)
-    → x ≡ WordWithPower w n ∷ y → tokens_fit WantsOperand k x ≡ true → c ≡ word b w → e ≡ tree.Power c (tree.Number n)
-    → AtomAt b k x e y
-word_power_front b k w n x y c e is h base says =
-    let f : tokens_fit EndsOperand k y ≡ true = fit_as k x _ is h in
+pub word_power_token_is_atom : (b : Option (List ℕ)) (k : ℕ) (w : List ℕ) (n : NumeralDecimal) (x y : List Token)
+    (c e : Syntax)
+    → x ≡ WordWithPower w n ∷ y → tokens_fit WantsOperand k x ≡ true → c ≡ word_syntax b w
+    → e ≡ tree.Power c (tree.Number n)
+    → AtomTreeAt b k x e y
+word_power_token_is_atom b k w n x y c e is h base says =
+    let f : tokens_fit EndsOperand k y ≡ true = equal_tokens_fit k x _ is h in
     record {
       front_part = PowerAtom w n;
       tokens_split = is;
       tree_of_part = says ∙ ap (λ z. tree.Power z (tree.Number n)) base;
       stop =
-          ended_stops k y f;
+          no_bar_token_after_operand k y f;
       fit = f;
     }
 
 -- two numerals with a bar at the front are an atom
-pub bar_front : (b : Option (List ℕ)) (k : ℕ) (n d : Decimal) (x y : List Token) (e : Syntax)
-    → x ≡ Numeral n ∷ Bar ∷ Numeral d ∷ y → tokens_fit WantsOperand k x ≡ true → e ≡ tree.Bar n d → AtomAt b k x e y
-bar_front b k n d x y e is h says =
-    let f : tokens_fit EndsOperand k y ≡ true = fit_as k x _ is h in
-    record { front_part = BarAtom n d; tokens_split = is; tree_of_part = says; stop = ended_stops k y f; fit = f }
+pub bar_tokens_are_atom : (b : Option (List ℕ)) (k : ℕ) (n d : NumeralDecimal) (x y : List Token) (e : Syntax)
+    → x ≡ Numeral n ∷ Bar ∷ Numeral d ∷ y → tokens_fit WantsOperand k x ≡ true → e ≡ tree.Bar n d → AtomTreeAt b k x e y
+bar_tokens_are_atom b k n d x y e is h says =
+    let f : tokens_fit EndsOperand k y ≡ true = equal_tokens_fit k x _ is h in
+    record {
+      front_part = BarAtom n d;
+      tokens_split = is;
+      tree_of_part = says;
+      stop =
+          no_bar_token_after_operand k y f;
+      fit = f;
+    }
 
 -- if no numeral follows after a `|`, no `|` follows
-no_denominator : (k : ℕ) (y : List Token) → first_denominator y ≡ None → tokens_fit EndsNumeral k y ≡ true
-    → (stops after_atom y ≡ true) × (tokens_fit EndsOperand k y ≡ true)
-no_denominator k [] n h = (refl, h)
-no_denominator k (Bar ∷ Numeral d ∷ y) n h = cc
-no_denominator k (Bar ∷ []) n h = cc
-no_denominator k (Bar ∷ t ∷ y) n h = cc
-no_denominator k (t ∷ y) n h = (refl, h)
+no_bar_token_without_denominator : (k : ℕ) (y : List Token) → first_token_denominator y ≡ None
+    → tokens_fit EndsNumeral k y ≡ true
+    → (tokens_stop token_follows_atom y ≡ true) × (tokens_fit EndsOperand k y ≡ true)
+no_bar_token_without_denominator k [] n h = (refl, h)
+no_bar_token_without_denominator k (Bar ∷ Numeral d ∷ y) n h = cc
+no_bar_token_without_denominator k (Bar ∷ []) n h = cc
+no_bar_token_without_denominator k (Bar ∷ t ∷ y) n h = cc
+no_bar_token_without_denominator k (t ∷ y) n h = (refl, h)
 
 -- a numeral alone at the front is an atom
-pub numeral_front : (b : Option (List ℕ)) (k : ℕ) (n : Decimal) (x y : List Token) (e : Syntax) → x ≡ Numeral n ∷ y
-    → first_denominator y ≡ None → tokens_fit WantsOperand k x ≡ true → e ≡ tree.Number n → AtomAt b k x e y
-numeral_front b k n x y e is alone h says =
-    let f : (stops after_atom y ≡ true) × (tokens_fit EndsOperand k y ≡ true) =
-    no_denominator k y alone (fit_as k x _ is h) in
+pub numeral_token_is_atom : (b : Option (List ℕ)) (k : ℕ) (n : NumeralDecimal) (x y : List Token) (e : Syntax)
+    → x ≡ Numeral n ∷ y
+    → first_token_denominator y ≡ None → tokens_fit WantsOperand k x ≡ true → e ≡ tree.Number n → AtomTreeAt b k x e y
+numeral_token_is_atom b k n x y e is alone h says =
+    let f : (tokens_stop token_follows_atom y ≡ true) × (tokens_fit EndsOperand k y ≡ true) =
+    no_bar_token_without_denominator k y alone (equal_tokens_fit k x _ is h) in
     record { front_part = NumeralAtom n; tokens_split = is; tree_of_part = says; stop = f.0; fit = f.1 }
 
 -- a call at the front, up to its `)`, is an atom
-pub call_front : (b : Option (List ℕ)) (k : ℕ) (w : List ℕ) (x y z : List Token) (a e : Syntax) → x ≡ Head w ∷ y
-    → IsSumInParens b k y a z → e ≡ call b w a → AtomAt b k x e z
-call_front b k w x y z a e is c says =
+pub call_tokens_are_atom : (b : Option (List ℕ)) (k : ℕ) (w : List ℕ) (x y z : List Token) (a e : Syntax)
+    → x ≡ Head w ∷ y
+    → IsSumInParens b k y a z → e ≡ call_syntax b w a → AtomTreeAt b k x e z
+call_tokens_are_atom b k w x y z a e is c says =
     record {
       front_part = CallAtom w c.inner_sum;
       tokens_split = is ∙ ap (λ v. Head w ∷ v) c.tokens_split;
-      tree_of_part = says ∙ ap (call b w) c.tree_of_sum;
+      tree_of_part = says ∙ ap (call_syntax b w) c.tree_of_sum;
       stop =
-          ended_stops k z c.fit;
+          no_bar_token_after_operand k z c.fit;
       fit = c.fit;
     }
 
 -- an inverse at the front, up to its `)`, is an atom
-pub inverse_front : (b : Option (List ℕ)) (k : ℕ) (w : List ℕ) (x y z : List Token) (a e : Syntax)
-    → x ≡ Tilde ∷ Head w ∷ y → IsSumInParens b k y a z → e ≡ tree.Inverse w a → AtomAt b k x e z
-inverse_front b k w x y z a e is c says =
+pub inverse_tokens_are_atom : (b : Option (List ℕ)) (k : ℕ) (w : List ℕ) (x y z : List Token) (a e : Syntax)
+    → x ≡ Tilde ∷ Head w ∷ y → IsSumInParens b k y a z → e ≡ tree.Inverse w a → AtomTreeAt b k x e z
+inverse_tokens_are_atom b k w x y z a e is c says =
     record {
       front_part = InverseAtom w c.inner_sum;
       tokens_split = is ∙ ap (λ v. Tilde ∷ Head w ∷ v) c.tokens_split;
       tree_of_part =
           says ∙ ap (tree.Inverse w) c.tree_of_sum;
-      stop = ended_stops k z c.fit;
+      stop = no_bar_token_after_operand k z c.fit;
       fit = c.fit;
     }
 
 -- a root at the front, up to its `)`, is an atom
-pub root_front : (b : Option (List ℕ)) (k : ℕ) (n : RootKind) (x y z : List Token) (a e : Syntax)
-    → x ≡ Root n ∷ Open ∷ y → IsSumInParens b k y a z → e ≡ tree.Root n a → AtomAt b k x e z
-root_front b k n x y z a e is c says =
+pub root_tokens_are_atom : (b : Option (List ℕ)) (k : ℕ) (n : RootKind) (x y z : List Token) (a e : Syntax)
+    → x ≡ Root n ∷ Open ∷ y → IsSumInParens b k y a z → e ≡ tree.Root n a → AtomTreeAt b k x e z
+root_tokens_are_atom b k n x y z a e is c says =
     record {
       front_part = RootAtom n c.inner_sum;
       tokens_split = is ∙ ap (λ v. Root n ∷ Open ∷ v) c.tokens_split;
       tree_of_part =
           says ∙ ap (tree.Root n) c.tree_of_sum;
-      stop = ended_stops k z c.fit;
+      stop = no_bar_token_after_operand k z c.fit;
       fit = c.fit;
     }
 
 -- a group at the front, up to its `)`, is an atom
-pub group_front : (b : Option (List ℕ)) (k : ℕ) (x y z : List Token) (a e : Syntax) → x ≡ Open ∷ y
+pub group_tokens_are_atom : (b : Option (List ℕ)) (k : ℕ) (x y z : List Token) (a e : Syntax) → x ≡ Open ∷ y
     → IsSumInParens b k y a z
-    → e ≡ tree.Group a → AtomAt b k x e z
-group_front b k x y z a e is c says =
+    → e ≡ tree.Group a → AtomTreeAt b k x e z
+group_tokens_are_atom b k x y z a e is c says =
     record {
       front_part = GroupAtom c.inner_sum;
       tokens_split = is ∙ ap (λ v. Open ∷ v) c.tokens_split;
       tree_of_part = says ∙ ap tree.Group c.tree_of_sum;
       stop =
-          ended_stops k z c.fit;
+          no_bar_token_after_operand k z c.fit;
       fit = c.fit;
     }
 
 -- after an atom without a `^`, the next token may follow a power
-no_caret : (y : List Token) → stops after_atom y ≡ true → first_caret y ≡ false → stops after_power y ≡ true
-no_caret [] s c = refl
-no_caret (Caret ∷ y) s c = cc
-no_caret (Bar ∷ y) s c = cc
-no_caret (t ∷ y) s c = refl
+tokens_without_caret_follow_power : (y : List Token) → tokens_stop token_follows_atom y ≡ true
+    → first_token_is_caret y ≡ false → tokens_stop token_follows_power y ≡ true
+tokens_without_caret_follow_power [] s c = refl
+tokens_without_caret_follow_power (Caret ∷ y) s c = cc
+tokens_without_caret_follow_power (Bar ∷ y) s c = cc
+tokens_without_caret_follow_power (t ∷ y) s c = refl
 
 -- an atom that no `^` follows is a power
-pub bare_front : (b : Option (List ℕ)) (k : ℕ) (x y : List Token) (e : Syntax) → AtomAt b k x e y
-    → first_caret y ≡ false → PowerAt b k x e y
-bare_front b k x y e a c =
+pub bare_atom_tokens_are_power : (b : Option (List ℕ)) (k : ℕ) (x y : List Token) (e : Syntax) → AtomTreeAt b k x e y
+    → first_token_is_caret y ≡ false → PowerTreeAt b k x e y
+bare_atom_tokens_are_power b k x y e a c =
     record {
       front_part = Bare a.front_part;
       tokens_split = a.tokens_split;
       tree_of_part = a.tree_of_part;
       stop =
-          no_caret y a.stop c;
+          tokens_without_caret_follow_power y a.stop c;
       fit = a.fit;
     }
 
 -- an atom with its exponent is a power
-pub raised_front : (b : Option (List ℕ)) (k : ℕ) (x y y' z : List Token) (a c e : Syntax) → AtomAt b k x a y
-    → y ≡ Caret ∷ y' → ExponentAt b k y' c z → e ≡ tree.Power a c → PowerAt b k x e z
-raised_front b k x y y' z a c e p is q says =
+pub raised_atom_tokens_are_power : (b : Option (List ℕ)) (k : ℕ) (x y y' z : List Token) (a c e : Syntax)
+    → AtomTreeAt b k x a y
+    → y ≡ Caret ∷ y' → ExponentTreeAt b k y' c z → e ≡ tree.Power a c → PowerTreeAt b k x e z
+raised_atom_tokens_are_power b k x y y' z a c e p is q says =
     record {
       front_part = Raised p.front_part q.front_part;
       tokens_split = p.tokens_split ∙ ap (atom p.front_part) (is ∙ ap (λ v. Caret ∷ v) q.tokens_split);
@@ -153,9 +175,9 @@ raised_front b k x y y' z a c e p is q says =
     }
 
 -- a power is an exponent
-pub exponent_front : (b : Option (List ℕ)) (k : ℕ) (x y : List Token) (e : Syntax) → PowerAt b k x e y
-    → ExponentAt b k x e y
-exponent_front b k x y e p =
+pub power_tokens_are_exponent : (b : Option (List ℕ)) (k : ℕ) (x y : List Token) (e : Syntax) → PowerTreeAt b k x e y
+    → ExponentTreeAt b k x e y
+power_tokens_are_exponent b k x y e p =
     record {
       front_part = ExponentOf p.front_part;
       tokens_split = p.tokens_split;
@@ -166,9 +188,9 @@ exponent_front b k x y e p =
     }
 
 -- an exponent with a sign in front is an exponent
-pub signed_exponent_front : (b : Option (List ℕ)) (k : ℕ) (s : Sign) (x y z : List Token) (a e : Syntax)
-    → x ≡ sign_token s ∷ y → ExponentAt b k y a z → e ≡ signed_syntax s a → ExponentAt b k x e z
-signed_exponent_front b k s x y z a e is q says =
+pub signed_tokens_are_exponent : (b : Option (List ℕ)) (k : ℕ) (s : Sign) (x y z : List Token) (a e : Syntax)
+    → x ≡ sign_token s ∷ y → ExponentTreeAt b k y a z → e ≡ signed_syntax s a → ExponentTreeAt b k x e z
+signed_tokens_are_exponent b k s x y z a e is q says =
     record {
       front_part = SignedExponent s q.front_part;
       tokens_split = is ∙ ap (λ v. sign_token s ∷ v) q.tokens_split;
@@ -178,9 +200,10 @@ signed_exponent_front b k s x y z a e is q says =
     }
 
 -- a juxtaposition with a sign in front is a juxtaposition
-pub signed_front : (b : Option (List ℕ)) (k : ℕ) (s : Sign) (x y z : List Token) (a e : Syntax) → x ≡ sign_token s ∷ y
-    → JuxtapositionAt b k y a z → e ≡ signed_syntax s a → JuxtapositionAt b k x e z
-signed_front b k s x y z a e is q says =
+pub signed_tokens_are_juxtaposition : (b : Option (List ℕ)) (k : ℕ) (s : Sign) (x y z : List Token) (a e : Syntax)
+    → x ≡ sign_token s ∷ y
+    → JuxtapositionTreeAt b k y a z → e ≡ signed_syntax s a → JuxtapositionTreeAt b k x e z
+signed_tokens_are_juxtaposition b k s x y z a e is q says =
     record {
       front_part = Signed s q.front_part;
       tokens_split = is ∙ ap (λ v. sign_token s ∷ v) q.tokens_split;
@@ -193,24 +216,25 @@ signed_front b k s x y z a e is q says =
 -- the state after each first token
 
 -- after a sign an operand is wanted
-pub sign_wants : (k : ℕ) (s : Sign) (x y : List Token) → x ≡ sign_token s ∷ y → tokens_fit WantsOperand k x ≡ true
+pub sign_token_wants_operand : (k : ℕ) (s : Sign) (x y : List Token) → x ≡ sign_token s ∷ y
+    → tokens_fit WantsOperand k x ≡ true
     → tokens_fit WantsOperand k y ≡ true
-sign_wants k s x y is h = go s (fit_as k x _ is h)
+sign_token_wants_operand k s x y is h = go s (equal_tokens_fit k x _ is h)
   where
     go : (s : Sign) → tokens_fit WantsOperand k (sign_token s ∷ y) ≡ true → tokens_fit WantsOperand k y ≡ true
     go signs.Plus f = f
     go signs.Minus f = f
 
 -- after a `^` an operand is wanted
-pub caret_wants : (k : ℕ) (x y : List Token) → x ≡ Caret ∷ y → tokens_fit EndsOperand k x ≡ true
+pub caret_token_wants_operand : (k : ℕ) (x y : List Token) → x ≡ Caret ∷ y → tokens_fit EndsOperand k x ≡ true
     → tokens_fit WantsOperand k y ≡ true
-caret_wants k x y is h = subst (λ z. tokens_fit EndsOperand k z ≡ true) is h
+caret_token_wants_operand k x y is h = subst (λ z. tokens_fit EndsOperand k z ≡ true) is h
 
 -- a sum followed by its `)` is closed
-pub closed_front : (b : Option (List ℕ)) (k : ℕ) (x y z : List Token) (e : Syntax)
-    → IsFront sum (sum_tree b) after_sum (suc k) x e y → y ≡ Close ∷ z → tokens_fit EndsOperand k z ≡ true
+pub sum_before_close_is_in_parens : (b : Option (List ℕ)) (k : ℕ) (x y z : List Token) (e : Syntax)
+    → IsTreeAtFront sum (sum_tree b) token_follows_sum (suc k) x e y → y ≡ Close ∷ z → tokens_fit EndsOperand k z ≡ true
     → IsSumInParens b k x e z
-closed_front b k x y z e p is f =
+sum_before_close_is_in_parens b k x y z e p is f =
     record {
       inner_sum = p.front_part;
       tokens_split = p.tokens_split ∙ ap (sum p.front_part) is;

@@ -1,6 +1,6 @@
 -- Rules of the grammar that read one part after another: the parts that were read come before those that follow.
 use Rattle.std.proofs.Common.{◌≡◌, ℕ, Bool, true, false, List, [], ◌∷◌, ◌++◌, refl, sym, ◌∙◌, ap}
-use Rattle.expr_tree.specs.Front.{IsFront, stops}
+use Rattle.expr_tree.specs.Front.{IsTreeAtFront, tokens_stop}
 use Rattle.expr_tree.specs.Rules.{EndsOperand, tokens_fit}
 use Rattle.expr_tree.specs.Syntax.{Syntax}
 use Rattle.expr_tree.specs.Tokens.{Token}
@@ -23,9 +23,9 @@ some [] = false
 some (a ∷ cs) = true
 
 -- a list with one more member is not empty
-some_more : {A : Type 0} (cs : List A) (a : A) → some (cs ++ a ∷ []) ≡ true
-some_more [] a = refl
-some_more (c ∷ cs) a = refl
+grammar_parts_not_empty : {A : Type 0} (cs : List A) (a : A) → some (cs ++ a ∷ []) ≡ true
+grammar_parts_not_empty [] a = refl
+grammar_parts_not_empty (c ∷ cs) a = refl
 
 -- members put in front of others
 abbrev before : {A L : Type 0} → (A → L → L) → List A → L → L
@@ -33,10 +33,10 @@ before cons [] others = others
 before cons (a ∷ cs) others = cons a (before cons cs others)
 
 -- one more member comes directly before the others
-before_more : {A L : Type 0} (cons : A → L → L) (cs : List A) (a : A) (others : L)
+grammar_part_before_others : {A L : Type 0} (cons : A → L → L) (cs : List A) (a : A) (others : L)
     → before cons (cs ++ a ∷ []) others ≡ before cons cs (cons a others)
-before_more cons [] a others = refl
-before_more cons (c ∷ cs) a others = ap (cons c) (before_more cons cs a others)
+grammar_part_before_others cons [] a others = refl
+grammar_part_before_others cons (c ∷ cs) a others = ap (cons c) (grammar_part_before_others cons cs a others)
 
 -- the parts read so far, together with any parts that follow, are parts from the front on
 pub record AreRead {P R A L : Type 0} (rule : PartRule P R A L) (k : ℕ) (x y : List Token)
@@ -45,13 +45,13 @@ pub record AreRead {P R A L : Type 0} (rule : PartRule P R A L) (k : ℕ) (x y :
   pub more : List A
   pub are : read ≡ rule.head (rule.says first) ∷ more
   pub two : rule.ends y ≡ true → some more ≡ true
-  pub stop : stops rule.follow y ≡ true
+  pub stop : tokens_stop rule.follow y ≡ true
   pub fit : tokens_fit EndsOperand k y ≡ true
   pub so_far : (q : R) (others : List Token) → y ≡ rule.rest q others
       → (p : R) × (x ≡ rule.part first (rule.rest p others)) × (before rule.cons more (rule.list q) ≡ rule.list p)
 
 module _ {P R A L : Type 0} (rule : PartRule P R A L) (k : ℕ) where
-  pub begun : (x y : List Token) (e : Syntax) (read : List A) → IsFront rule.part rule.says rule.follow k x e y
+  pub begun : (x y : List Token) (e : Syntax) (read : List A) → IsTreeAtFront rule.part rule.says rule.follow k x e y
       → (rule.ends y ≡ true → ⊥) → read ≡ rule.head e ∷ [] → AreRead rule k x y read
   begun x y e read p n are = record {
     first = p.front_part;
@@ -65,7 +65,7 @@ module _ {P R A L : Type 0} (rule : PartRule P R A L) (k : ℕ) where
 
   -- reading one more member, given the parts that begin with it
   pub gone_on : (x y y' z : List Token) (e : Syntax) (a : A) (read read' : List A) → AreRead rule k x y read
-      → (p : IsFront rule.part rule.says rule.follow k y' e z)
+      → (p : IsTreeAtFront rule.part rule.says rule.follow k y' e z)
       → (step : R → R)
       → ((q : R) (others : List Token) → y' ≡ rule.part p.front_part (rule.rest q others)
       → y ≡ rule.rest (step q) others)
@@ -75,14 +75,18 @@ module _ {P R A L : Type 0} (rule : PartRule P R A L) (k : ℕ) where
     first = r.first;
     more = r.more ++ a ∷ [];
     are = are ∙ ap (λ v. v ++ a ∷ []) r.are;
-    two = λ h. some_more r.more a;
+    two = λ h. grammar_parts_not_empty r.more a;
     stop = p.stop;
     fit = p.fit;
     so_far = λ q others h.
         let d : (d : R) × (x ≡ rule.part r.first (rule.rest d others))
         × (before rule.cons r.more (rule.list (step q)) ≡ rule.list d)
-        = r.so_far (step q) others (spelled q others (p.tokens_split ∙ ap (rule.part p.front_part) h)) in
-        (d.0, d.1, before_more rule.cons r.more a (rule.list q) ∙ ap (before rule.cons r.more) (listed q) ∙ d.2);
+        = r.so_far (step q) others (spelled q others (p.tokens_split ∙ ap (rule.part p.front_part) h)) in (
+          d.0,
+          d.1,
+          grammar_part_before_others rule.cons r.more a (rule.list q) ∙ ap (before rule.cons r.more) (listed q)
+              ∙ d.2,
+        );
   }
 
 -- the list of the members, of which two or more make one tree

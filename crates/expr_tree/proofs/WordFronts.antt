@@ -5,12 +5,12 @@ use Rattle.std.proofs.Common.{one-add}
 use Rattle.expr_tree.specs.Names.{is_word_byte}
 
 -- the front of a word consists of bytes of words
-pub take-words : (n : ℕ) (word : List ℕ) → list_all is_word_byte word ≡ true
+pub word-token-bytes-take : (n : ℕ) (word : List ℕ) → list_all is_word_byte word ≡ true
     → list_all is_word_byte (take n word) ≡ true
-take-words zero [] h = refl
-take-words (suc n) [] h = refl
-take-words zero (b ∷ word) h = refl
-take-words (suc n) (b ∷ word) h = go (is_word_byte b) h (take-words n word)
+word-token-bytes-take zero [] h = refl
+word-token-bytes-take (suc n) [] h = refl
+word-token-bytes-take zero (b ∷ word) h = refl
+word-token-bytes-take (suc n) (b ∷ word) h = go (is_word_byte b) h (word-token-bytes-take n word)
   where
     go : (t : Bool) → (t && list_all is_word_byte word) ≡ true
         → (list_all is_word_byte word ≡ true → list_all is_word_byte (take n word) ≡ true)
@@ -19,9 +19,10 @@ take-words (suc n) (b ∷ word) h = go (is_word_byte b) h (take-words n word)
     go false h rest = cc
 
 -- the longest front of bytes of words consists of such bytes
-pub prefix_len-words : (text : List ℕ) → list_all is_word_byte (take (prefix_len is_word_byte text) text) ≡ true
-prefix_len-words [] = refl
-prefix_len-words (b ∷ text) = go (is_word_byte b) refl (prefix_len-words text)
+pub prefix_len-word-token-bytes : (text : List ℕ)
+    → list_all is_word_byte (take (prefix_len is_word_byte text) text) ≡ true
+prefix_len-word-token-bytes [] = refl
+prefix_len-word-token-bytes (b ∷ text) = go (is_word_byte b) refl (prefix_len-word-token-bytes text)
   where
     go : (t : Bool) → is_word_byte b ≡ t → list_all is_word_byte (take (prefix_len is_word_byte text) text) ≡ true
         → list_all is_word_byte (take (cond t (1 + prefix_len is_word_byte text) 0) (b ∷ text)) ≡ true
@@ -30,4 +31,4 @@ prefix_len-words (b ∷ text) = go (is_word_byte b) refl (prefix_len-words text)
         ∙ ap (λ t. t && list_all is_word_byte (take (prefix_len is_word_byte text) text)) e ∙ rest
     go false e rest = refl
 
-pub ruleset words = (take-words, prefix_len-words)
+pub ruleset words = (word-token-bytes-take, prefix_len-word-token-bytes)

@@ -34,5 +34,5 @@ abbrev mutual
   terms_hold (Term sign e ts) = holds_argument e || terms_hold ts
 
 -- law: the tree of a text that is parsed without a binder contains no argument
-abbrev pub FreeLaw : Type 0
-FreeLaw = (text : List ℕ) (e : Syntax) → parse_of None text ≡ Ok e → holds_argument e ≡ false
+abbrev pub ArgumentFreeTreeLaw : Type 0
+ArgumentFreeTreeLaw = (text : List ℕ) (e : Syntax) → parse_of None text ≡ Ok e → holds_argument e ≡ false

@@ -1,8 +1,7 @@
 -- The grammar: a type for each of its rules, the tokens of each derivation, and its tree.
-use Rattle.std.specs.Prelude.{◌≡◌, ℕ, Bool, false, if◌then◌else◌}
-use Rattle.std.specs.Prelude.{List, [], ◌∷◌, Option, Some, None}
+use Rattle.std.specs.Prelude.{◌≡◌, ℕ, Bool, false, if◌then◌else◌, List, [], ◌∷◌, Option, Some, None}
 use Rattle.std.specs.Str.{bytes_eq}
-use Rattle.frac128.specs.Decimals.{Decimal}
+use Rattle.frac128.specs.Decimals.{NumeralDecimal}
 use Rattle.expr_tree.specs.declared.operator.RootKind.{RootKind}
 use Rattle.expr_tree.specs.declared.operator.Scale.{Scale}
 use Rattle.expr_tree.specs.declared.operator.Scale.TheVariants.{Multiply, Divide}
@@ -51,13 +50,13 @@ mutual
 
   pub data Atom : Type 0 where
     -- numeral
-    NumeralAtom : Decimal → Atom
+    NumeralAtom : NumeralDecimal → Atom
     -- numeral "|" numeral
-    BarAtom : Decimal → Decimal → Atom
+    BarAtom : NumeralDecimal → NumeralDecimal → Atom
     -- word
     WordAtom : List ℕ → Atom
     -- word with power
-    PowerAtom : List ℕ → Decimal → Atom
+    PowerAtom : List ℕ → NumeralDecimal → Atom
     -- head sum ")"
     CallAtom : List ℕ → Sum → Atom
     -- "~" head sum ")"
@@ -123,16 +122,16 @@ is_binder None w = false
 is_binder (Some binder) w = bytes_eq binder w
 
 -- a word, which is the argument if it is the binder
-abbrev pub word : Option (List ℕ) → List ℕ → Syntax
-word binder w = if is_binder binder w then tree.Argument else tree.Word w
+abbrev pub word_syntax : Option (List ℕ) → List ℕ → Syntax
+word_syntax binder w = if is_binder binder w then tree.Argument else tree.Word w
 
 -- the argument times an operand
-abbrev pub argument_times : Syntax → Syntax
-argument_times e = tree.Group (tree.Juxtaposed (tree.Member tree.Argument (tree.Member e tree.NoMember)))
+abbrev pub argument_times_syntax : Syntax → Syntax
+argument_times_syntax e = tree.Group (tree.Juxtaposed (tree.Member tree.Argument (tree.Member e tree.NoMember)))
 
 -- a word before an operand in parentheses: a product if the word is the binder, and else a call
-abbrev pub call : Option (List ℕ) → List ℕ → Syntax → Syntax
-call binder w e = if is_binder binder w then argument_times e else tree.Call w e
+abbrev pub call_syntax : Option (List ℕ) → List ℕ → Syntax → Syntax
+call_syntax binder w e = if is_binder binder w then argument_times_syntax e else tree.Call w e
 
 abbrev pub signed_syntax : Sign → Syntax → Syntax
 signed_syntax signs.Plus e = e
@@ -187,18 +186,18 @@ abbrev mutual
   pub atom_tree : Option (List ℕ) → Atom → Syntax
   atom_tree binder (NumeralAtom n) = tree.Number n
   atom_tree binder (BarAtom n d) = tree.Bar n d
-  atom_tree binder (WordAtom w) = word binder w
-  atom_tree binder (PowerAtom w n) = tree.Power (word binder w) (tree.Number n)
-  atom_tree binder (CallAtom w d) = call binder w (sum_tree binder d)
+  atom_tree binder (WordAtom w) = word_syntax binder w
+  atom_tree binder (PowerAtom w n) = tree.Power (word_syntax binder w) (tree.Number n)
+  atom_tree binder (CallAtom w d) = call_syntax binder w (sum_tree binder d)
   atom_tree binder (InverseAtom w d) = tree.Inverse w (sum_tree binder d)
   atom_tree binder (RootAtom kind d) = tree.Root kind (sum_tree binder d)
   atom_tree binder (GroupAtom d) = tree.Group (sum_tree binder d)
 
 -- the tokens give the tree
-abbrev pub GivesTree : Option (List ℕ) → List Token → Syntax → Type 0
-GivesTree binder ts e = (d : Sum) × (ts ≡ sum d []) × (e ≡ sum_tree binder d)
+abbrev pub TokensGiveTree : Option (List ℕ) → List Token → Syntax → Type 0
+TokensGiveTree binder ts e = (d : Sum) × (ts ≡ sum d []) × (e ≡ sum_tree binder d)
 
 -- law: tokens give at most one tree
 abbrev pub OneTreeLaw : Type 0
 OneTreeLaw = (binder : Option (List ℕ)) (ts : List Token) (x y : Syntax)
-    → GivesTree binder ts x → GivesTree binder ts y → x ≡ y
+    → TokensGiveTree binder ts x → TokensGiveTree binder ts y → x ≡ y

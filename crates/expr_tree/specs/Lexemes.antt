@@ -3,13 +3,14 @@ use Rattle.std.specs.Prelude.{ℕ, zero, suc, ◌+◌, ◌-◌, pos, Bool, true,
 use Rattle.std.specs.Prelude.{List, [], ◌∷◌, ◌++◌, length, take, drop, slice_index, Result, Ok, Err}
 use Rattle.std.specs.List.{prefix_len}
 use Rattle.std.specs.Str.{bytes_eq}
-use Rattle.frac128.specs.Decimals.{Decimal, numeral_reading}
-use Rattle.frac128.specs.Numerals.{is_digit, numeral_len_of}
+use Rattle.frac128.specs.Decimals.{NumeralDecimal, numeral_reading}
+use Rattle.frac128.specs.Numerals.{is_numeral_digit, longest_numeral_len}
 use Rattle.frac128.specs.declared.numeral.NumeralFault.{NumeralFault}
 use Rattle.frac128.specs.declared.numeral.NumeralFault.TheVariants as fault
-use Rattle.units_io.specs.Blanks.{is_blank}
+use Rattle.units_io.specs.Blanks.{is_blank_text_byte}
 use Rattle.expr_tree.specs.declared.operator.RootKind.TheVariants.{Square, Cube}
-use Rattle.expr_tree.specs.Names.{base, has_power, is_name, is_refused, is_word_byte, last_byte, word_of}
+use Rattle.expr_tree.specs.Names.{front_token_word, has_power, is_name, is_refused, is_word_byte, last_byte}
+use Rattle.expr_tree.specs.Names.{word_token_base}
 use Rattle.expr_tree.specs.Tokens.{Token, Numeral, Word, WordWithPower, Head, Root}
 use Rattle.expr_tree.specs.Tokens.{Plus, Minus, Star, Slash, Bar, Caret, Tilde, Open, Close}
 
@@ -27,7 +28,7 @@ pub record Piece : Type 0 where
   pub len : ℕ
 
 -- a lexeme, and the offset of its first byte
-pub record Placed : Type 0 where
+pub record PlacedLexeme : Type 0 where
   pub place : ℕ
   pub lexeme : Lexeme
 
@@ -35,7 +36,7 @@ abbrev pub lexeme_piece : Lexeme → ℕ → Piece
 lexeme_piece x n = record { lexeme = x; len = n }
 
 -- the lexeme of the bytes of a numeral
-abbrev pub numeral_lexeme : Result Decimal NumeralFault → Lexeme
+abbrev pub numeral_lexeme : Result NumeralDecimal NumeralFault → Lexeme
 numeral_lexeme (Ok x) = Whole (Numeral x)
 numeral_lexeme (Err fault.TooLong) = TooLong
 numeral_lexeme (Err fault.NotNumeral) = Malformed
@@ -43,17 +44,19 @@ numeral_lexeme (Err fault.NotNumeral) = Malformed
 -- the longest numeral at the front; a point without a digit is not a numeral
 abbrev pub numeral_piece : List ℕ → Piece
 numeral_piece text =
-    if numeral_len_of text == 0
+    if longest_numeral_len text == 0
     then lexeme_piece Malformed 1
-    else lexeme_piece (numeral_lexeme (numeral_reading (take (numeral_len_of text) text))) (numeral_len_of text)
+    else lexeme_piece (numeral_lexeme (numeral_reading (take (longest_numeral_len text) text)))
+    (longest_numeral_len text)
 
 -- the last digit of a word, as a numeral
-abbrev pub word_power : List ℕ → Decimal
-word_power word = record { coefficient = last_byte word - 48; scale = pos 0 }
+abbrev pub word_token_power : List ℕ → NumeralDecimal
+word_token_power word = record { coefficient = last_byte word - 48; scale = pos 0 }
 
 -- a name followed by one digit from 2 to 9
 abbrev pub word_with_power : List ℕ → Lexeme
-word_with_power word = if has_power word then Whole (WordWithPower (base word) (word_power word)) else Malformed
+word_with_power word = if has_power word then Whole (WordWithPower (word_token_base word) (word_token_power word)) else
+    Malformed
 
 -- the lexeme of a word that is neither a name nor refused
 abbrev pub other_word : List ℕ → Lexeme
@@ -76,8 +79,8 @@ abbrev pub has_paren : List ℕ → Bool
 has_paren text = slice_index text 0 == 40
 
 -- the word at the front of a text
-abbrev pub word_front : List ℕ → Piece
-word_front text = word_piece (word_of text) (has_paren (drop (prefix_len is_word_byte text) text))
+abbrev pub front_word_lexeme : List ℕ → Piece
+front_word_lexeme text = word_piece (front_token_word text) (has_paren (drop (prefix_len is_word_byte text) text))
 
 -- the token that a byte is by itself
 abbrev pub byte_lexeme : ℕ → Lexeme
@@ -101,16 +104,16 @@ mark_piece text =
     else lexeme_piece (byte_lexeme (slice_index text 0)) 1
 
 -- the first byte is `.`
-abbrev pub begins_with_point : List ℕ → Bool
-begins_with_point text = slice_index text 0 == 46
+abbrev pub lexeme_begins_with_point : List ℕ → Bool
+lexeme_begins_with_point text = slice_index text 0 == 46
 
 -- the lexeme at the front of a non-empty text; a point directly after a numeral is malformed
-abbrev pub first_piece : Bool → List ℕ → Piece
-first_piece after_numeral text =
-    if is_blank (slice_index text 0) then lexeme_piece Blank 1
-    else (if after_numeral && begins_with_point text then lexeme_piece Malformed 1
-    else (if is_digit (slice_index text 0) || begins_with_point text then numeral_piece text
-    else (if is_word_byte (slice_index text 0) then word_front text
+abbrev pub first_lexeme_piece : Bool → List ℕ → Piece
+first_lexeme_piece after_numeral text =
+    if is_blank_text_byte (slice_index text 0) then lexeme_piece Blank 1
+    else (if after_numeral && lexeme_begins_with_point text then lexeme_piece Malformed 1
+    else (if is_numeral_digit (slice_index text 0) || lexeme_begins_with_point text then numeral_piece text
+    else (if is_word_byte (slice_index text 0) then front_word_lexeme text
     else mark_piece text)))
 
 abbrev pub is_numeral_token : Token → Bool
@@ -123,16 +126,16 @@ is_numeral_lexeme TooLong = true
 is_numeral_lexeme _ = false
 
 -- the lexemes of a text whose first `covered` bytes belong to the lexeme before it
-unfoldable pub lexemes_from : ℕ → Bool → ℕ → List ℕ → List Placed
+unfoldable pub lexemes_from : ℕ → Bool → ℕ → List ℕ → List PlacedLexeme
 lexemes_from covered after_numeral place [] = []
 lexemes_from (suc covered) after_numeral place (b ∷ bs) = lexemes_from covered after_numeral (suc place) bs
 lexemes_from zero after_numeral place (b ∷ bs) =
-    let first : Piece = first_piece after_numeral (b ∷ bs) in
+    let first : Piece = first_lexeme_piece after_numeral (b ∷ bs) in
     record { place = place; lexeme = first.lexeme }
     ∷ lexemes_from (first.len - 1) (is_numeral_lexeme first.lexeme) (suc place) bs
 
 -- the lexemes of a text, each with its offset
-abbrev pub lexemes : List ℕ → List Placed
+abbrev pub lexemes : List ℕ → List PlacedLexeme
 lexemes text = lexemes_from 0 false 0 text
 
 -- the token of a lexeme, if it is a token
@@ -140,7 +143,7 @@ abbrev pub token_in : Lexeme → List Token
 token_in (Whole t) = t ∷ []
 token_in _ = []
 
-unfoldable pub tokens_in : List Placed → List Token
+unfoldable pub tokens_in : List PlacedLexeme → List Token
 tokens_in [] = []
 tokens_in (x ∷ xs) = token_in x.lexeme ++ tokens_in xs
 

@@ -17,18 +17,18 @@ begins_operand Tilde = true
 begins_operand Open = true
 begins_operand _ = false
 
-abbrev pub is_sign : Token → Bool
-is_sign Plus = true
-is_sign Minus = true
-is_sign _ = false
+abbrev pub is_sign_token : Token → Bool
+is_sign_token Plus = true
+is_sign_token Minus = true
+is_sign_token _ = false
 
-abbrev pub is_operator : Token → Bool
-is_operator Plus = true
-is_operator Minus = true
-is_operator Star = true
-is_operator Slash = true
-is_operator Caret = true
-is_operator _ = false
+abbrev pub is_operator_token : Token → Bool
+is_operator_token Plus = true
+is_operator_token Minus = true
+is_operator_token Star = true
+is_operator_token Slash = true
+is_operator_token Caret = true
+is_operator_token _ = false
 
 -- the state after a token, by the state before it
 abbrev pub state_after_token : Token → After → After
@@ -43,27 +43,27 @@ state_after_token Bar _ = WantsNumeral
 state_after_token _ _ = WantsOperand
 
 -- an operand has ended
-abbrev pub operand_has_ended : After → Bool
-operand_has_ended EndsNumeral = true
-operand_has_ended EndsOperand = true
-operand_has_ended _ = false
+abbrev pub operand_tokens_have_ended : After → Bool
+operand_tokens_have_ended EndsNumeral = true
+operand_tokens_have_ended EndsOperand = true
+operand_tokens_have_ended _ = false
 
 -- whether the token may follow, by the state after the tokens before it and the number of open parentheses
 abbrev pub may : After → ℕ → Token → Bool
-may WantsOperand open_parens t = begins_operand t || is_sign t
+may WantsOperand open_parens t = begins_operand t || is_sign_token t
 may WantsHead open_parens (Head w) = true
 may WantsOpen open_parens Open = true
 may WantsNumeral open_parens (Numeral n) = true
 may EndsNumeral open_parens Bar = true
 may EndsNumeral open_parens Close = nat_lt 0 open_parens
-may EndsNumeral open_parens t = begins_operand t || is_operator t
+may EndsNumeral open_parens t = begins_operand t || is_operator_token t
 may EndsOperand open_parens Close = nat_lt 0 open_parens
-may EndsOperand open_parens t = begins_operand t || is_operator t
+may EndsOperand open_parens t = begins_operand t || is_operator_token t
 may _ open_parens t = false
 
 -- whether the tokens may end
 abbrev pub may_end_tokens : After → ℕ → Bool
-may_end_tokens last open_parens = operand_has_ended last && nat_eq open_parens 0
+may_end_tokens last open_parens = operand_tokens_have_ended last && nat_eq open_parens 0
 
 -- a `(` or a head
 abbrev pub opens : Token → Bool
@@ -88,58 +88,59 @@ closes_paren Close = true
 closes_paren _ = false
 
 -- one more, one less, or the same
-abbrev pub count_after : Bool → Bool → ℕ → ℕ
-count_after true less n = suc n
-count_after false true n = n - 1
-count_after false false n = n
+abbrev pub token_count_after : Bool → Bool → ℕ → ℕ
+token_count_after true less n = suc n
+token_count_after false true n = n - 1
+token_count_after false false n = n
 
 -- how many parentheses are open after a token, by how many are open before it
-abbrev pub opened_after : Token → ℕ → ℕ
-opened_after t open_parens = count_after (opens t) (closes_paren t) open_parens
+abbrev pub open_parens_after : Token → ℕ → ℕ
+open_parens_after t open_parens = token_count_after (opens t) (closes_paren t) open_parens
 
 -- the depth of the token after a token, by the depth of that token
-abbrev pub depth_after : Token → After → ℕ → ℕ
-depth_after t last token_depth = count_after (deepens t last) (closes_paren t) token_depth
+abbrev pub depth_after_token : Token → After → ℕ → ℕ
+depth_after_token t last token_depth = token_count_after (deepens t last) (closes_paren t) token_depth
 
 -- each of the tokens is allowed at its place and they may end, by the state before them
 abbrev pub tokens_fit : After → ℕ → List Token → Bool
 tokens_fit last open_parens [] = may_end_tokens last open_parens
 tokens_fit last open_parens (t ∷ ts) = may last open_parens t && tokens_fit (state_after_token t last)
-    (opened_after t open_parens)
+    (open_parens_after t open_parens)
     ts
 
 -- the plain rules, which look at all tokens before a place
 
 -- the state after a list of tokens
-abbrev pub left_by : After → List Token → After
-left_by last [] = last
-left_by last (t ∷ ts) = left_by (state_after_token t last) ts
+abbrev pub state_after_tokens : After → List Token → After
+state_after_tokens last [] = last
+state_after_tokens last (t ∷ ts) = state_after_tokens (state_after_token t last) ts
 
 -- how many tokens of a list open a parenthesis, deepen, and close
-abbrev pub count_opens : List Token → ℕ
-count_opens [] = 0
-count_opens (t ∷ ts) = count_after (opens t) false (count_opens ts)
+abbrev pub count_opening_tokens : List Token → ℕ
+count_opening_tokens [] = 0
+count_opening_tokens (t ∷ ts) = token_count_after (opens t) false (count_opening_tokens ts)
 
-abbrev pub count_deepens : After → List Token → ℕ
-count_deepens last [] = 0
-count_deepens last (t ∷ ts) = count_after (deepens t last) false (count_deepens (state_after_token t last) ts)
+abbrev pub count_deepening_tokens : After → List Token → ℕ
+count_deepening_tokens last [] = 0
+count_deepening_tokens last (t ∷ ts) = token_count_after (deepens t last) false
+    (count_deepening_tokens (state_after_token t last) ts)
 
-abbrev pub count_closes : List Token → ℕ
-count_closes [] = 0
-count_closes (t ∷ ts) = count_after (closes_paren t) false (count_closes ts)
+abbrev pub count_closing_tokens : List Token → ℕ
+count_closing_tokens [] = 0
+count_closing_tokens (t ∷ ts) = token_count_after (closes_paren t) false (count_closing_tokens ts)
 
 abbrev pub open_parens : List Token → ℕ
-open_parens ts = count_opens ts - count_closes ts
+open_parens ts = count_opening_tokens ts - count_closing_tokens ts
 
 -- token i may follow the tokens before it
-abbrev pub MayStand : List Token → ℕ → Type 0
-MayStand ts i = (t : Token) → slice_get ts i ≡ Some t
-    → IsTrue (may (left_by WantsOperand (take i ts)) (open_parens (take i ts)) t)
+abbrev pub TokenMayFollow : List Token → ℕ → Type 0
+TokenMayFollow ts i = (t : Token) → slice_get ts i ≡ Some t
+    → IsTrue (may (state_after_tokens WantsOperand (take i ts)) (open_parens (take i ts)) t)
 
 -- the tokens may end
 abbrev pub TokensMayEnd : List Token → Type 0
-TokensMayEnd ts = IsTrue (may_end_tokens (left_by WantsOperand ts) (open_parens ts))
+TokensMayEnd ts = IsTrue (may_end_tokens (state_after_tokens WantsOperand ts) (open_parens ts))
 
 -- the depth of token i
 abbrev pub token_depth : List Token → ℕ → ℕ
-token_depth ts i = count_deepens WantsOperand (take i ts) - count_closes (take i ts)
+token_depth ts i = count_deepening_tokens WantsOperand (take i ts) - count_closing_tokens (take i ts)

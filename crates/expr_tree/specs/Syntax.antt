@@ -1,6 +1,6 @@
 -- The meaning of an expression: a tree, wherever it is in memory.
 use Rattle.std.specs.Prelude.{ℕ, List}
-use Rattle.frac128.specs.Decimals.{Decimal}
+use Rattle.frac128.specs.Decimals.{NumeralDecimal}
 use Rattle.expr_tree.specs.declared.operator.RootKind.{RootKind}
 use Rattle.expr_tree.specs.declared.operator.RootKind.TheVariants.{Square, Cube}
 use Rattle.expr_tree.specs.declared.operator.Scale.{Scale}
@@ -13,8 +13,8 @@ degree Cube = 3
 
 mutual
   pub data Syntax : Type 0 where
-    Number : Decimal → Syntax
-    Bar : Decimal → Decimal → Syntax
+    Number : NumeralDecimal → Syntax
+    Bar : NumeralDecimal → NumeralDecimal → Syntax
     Word : List ℕ → Syntax
     Argument : Syntax
     Call : List ℕ → Syntax → Syntax

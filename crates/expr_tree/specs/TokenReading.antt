@@ -3,11 +3,10 @@
 use Rattle.std.specs.Prelude.{◌↔◌, ◌≡◌, ℕ, zero, suc, ◌+◌, ◌*◌, List, [], ◌∷◌, length, Option, Some, None, option_map}
 use Rattle.std.specs.Prelude.{if◌then◌else◌}
 use Rattle.expr_tree.specs.Grammar.{Sum, SumOf, SumRest, NoTerm, NextTerm, Product, ProductOf, ProductRest, NoFactor}
-use Rattle.expr_tree.specs.Grammar.{NextFactor}
-use Rattle.expr_tree.specs.Grammar.{Juxtaposition, Signed, JuxtapositionOf, JuxtapositionRest, NoPower, NextPower}
-use Rattle.expr_tree.specs.Grammar.{Power, Bare, Raised, Exponent, SignedExponent, ExponentOf}
-use Rattle.expr_tree.specs.Grammar.{Atom, NumeralAtom, BarAtom, WordAtom, PowerAtom, CallAtom, InverseAtom, RootAtom}
-use Rattle.expr_tree.specs.Grammar.{GroupAtom, sum_tree, GivesTree}
+use Rattle.expr_tree.specs.Grammar.{NextFactor, Juxtaposition, Signed, JuxtapositionOf, JuxtapositionRest, NoPower}
+use Rattle.expr_tree.specs.Grammar.{NextPower, Power, Bare, Raised, Exponent, SignedExponent, ExponentOf, Atom}
+use Rattle.expr_tree.specs.Grammar.{NumeralAtom, BarAtom, WordAtom, PowerAtom, CallAtom, InverseAtom, RootAtom}
+use Rattle.expr_tree.specs.Grammar.{GroupAtom, sum_tree, TokensGiveTree}
 use Rattle.expr_tree.specs.Rules.{WantsOperand, begins_operand, tokens_fit}
 use Rattle.expr_tree.specs.Syntax.{Syntax}
 use Rattle.expr_tree.specs.Tokens.{Token, Numeral, Word, WordWithPower, Head, Root, Plus, Minus, Star, Slash, Bar}
@@ -21,9 +20,9 @@ None >>= f = None
 (Some x) >>= f = f x
 
 -- what `make` makes of a sum, if a `)` follows it
-abbrev pub closed_by : {A : Type 0} → (Sum → A) → Sum × List Token → Option (A × List Token)
-closed_by make (d, Close ∷ ts) = Some (make d, ts)
-closed_by make _ = None
+abbrev pub sum_closed_by_paren : {A : Type 0} → (Sum → A) → Sum × List Token → Option (A × List Token)
+sum_closed_by_paren make (d, Close ∷ ts) = Some (make d, ts)
+sum_closed_by_paren make _ = None
 
 -- `n` limits how deep the rules may nest; eight for each token is enough if the tokens fit
 abbrev mutual
@@ -119,20 +118,20 @@ abbrev mutual
   read_atom (suc n) (Numeral x ∷ ts) = Some (NumeralAtom x, ts)
   read_atom (suc n) (Word w ∷ ts) = Some (WordAtom w, ts)
   read_atom (suc n) (WordWithPower w x ∷ ts) = Some (PowerAtom w x, ts)
-  read_atom (suc n) (Head w ∷ ts) = read_sum n ts >>= closed_by (CallAtom w)
-  read_atom (suc n) (Tilde ∷ Head w ∷ ts) = read_sum n ts >>= closed_by (InverseAtom w)
-  read_atom (suc n) (Root kind ∷ Open ∷ ts) = read_sum n ts >>= closed_by (RootAtom kind)
-  read_atom (suc n) (Open ∷ ts) = read_sum n ts >>= closed_by GroupAtom
+  read_atom (suc n) (Head w ∷ ts) = read_sum n ts >>= sum_closed_by_paren (CallAtom w)
+  read_atom (suc n) (Tilde ∷ Head w ∷ ts) = read_sum n ts >>= sum_closed_by_paren (InverseAtom w)
+  read_atom (suc n) (Root kind ∷ Open ∷ ts) = read_sum n ts >>= sum_closed_by_paren (RootAtom kind)
+  read_atom (suc n) (Open ∷ ts) = read_sum n ts >>= sum_closed_by_paren GroupAtom
   read_atom (suc n) ts = None
 
 -- the tree that the tokens give
-unfoldable pub tree_of : Option (List ℕ) → List Token → Option Syntax
-tree_of binder ts =
+unfoldable pub tree_of_token_list : Option (List ℕ) → List Token → Option Syntax
+tree_of_token_list binder ts =
     if tokens_fit WantsOperand 0 ts
     then option_map (λ x. sum_tree binder x.0) (read_sum (8 * length ts + 8) ts)
     else None
 
 -- law: the function gives a tree exactly if the tokens give it
-abbrev pub TreeOfLaw : Type 0
-TreeOfLaw = (binder : Option (List ℕ)) (ts : List Token) (e : Syntax)
-    → (tree_of binder ts ≡ Some e) ↔ GivesTree binder ts e
+abbrev pub TreeOfTokenListLaw : Type 0
+TreeOfTokenListLaw = (binder : Option (List ℕ)) (ts : List Token) (e : Syntax)
+    → (tree_of_token_list binder ts ≡ Some e) ↔ TokensGiveTree binder ts e

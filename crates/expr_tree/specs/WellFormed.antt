@@ -38,5 +38,6 @@ abbrev mutual
   are_formed_terms (Term sign e ts) = is_formed e && are_formed_terms ts
 
 -- law: a text that has a tree is parsed to a well-formed one
-abbrev pub FormedLaw : Type 0
-FormedLaw = (binder : Option (List ℕ)) (text : List ℕ) (e : Syntax) → parse_of binder text ≡ Ok e → IsTrue (is_formed e)
+abbrev pub WellFormedTreeLaw : Type 0
+WellFormedTreeLaw = (binder : Option (List ℕ)) (text : List ℕ) (e : Syntax) → parse_of binder text ≡ Ok e
+    → IsTrue (is_formed e)

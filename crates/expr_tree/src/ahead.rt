@@ -1,8 +1,8 @@
 //! Looks at the token at a place without consuming it.
 
 ghost use Rattle.std.specs.Prelude.{◌≡◌};
-ghost use Rattle.expr_tree.specs.Front.{can_begin_operand, first_caret, first_denominator, first_scale, first_sign};
-ghost use Rattle.expr_tree.specs.Front.{tokens_from};
+ghost use Rattle.expr_tree.specs.Front.{first_token_denominator, first_token_is_caret, first_token_scale};
+ghost use Rattle.expr_tree.specs.Front.{first_token_sign, tokens_begin_operand, tokens_from};
 
 use crate::operator::{Scale, Sign};
 use crate::token::Token;
@@ -10,7 +10,7 @@ use frac128::Numeral;
 
 // Returns the `+` or `-` at `at`, if one is there.
 pub(crate) fn sign_at(tokens: &[Token], at: usize) -> Option<Sign>
-    ensures { result ≡ first_sign (tokens_from tokens.now at) }
+    ensures { result ≡ first_token_sign (tokens_from tokens.now at) }
 {
     match tokens.get(at) {
         Some(Token::Plus) => Some(Sign::Plus),
@@ -21,7 +21,7 @@ pub(crate) fn sign_at(tokens: &[Token], at: usize) -> Option<Sign>
 
 // Returns the `*` or `/` at `at`, if one is there.
 pub(crate) fn scale_at(tokens: &[Token], at: usize) -> Option<Scale>
-    ensures { result ≡ first_scale (tokens_from tokens.now at) }
+    ensures { result ≡ first_token_scale (tokens_from tokens.now at) }
 {
     match tokens.get(at) {
         Some(Token::Star) => Some(Scale::Multiply),
@@ -32,14 +32,14 @@ pub(crate) fn scale_at(tokens: &[Token], at: usize) -> Option<Scale>
 
 // Whether the token at `at` is a `^`.
 pub(crate) fn has_caret(tokens: &[Token], at: usize) -> bool
-    ensures { result ≡ first_caret (tokens_from tokens.now at) }
+    ensures { result ≡ first_token_is_caret (tokens_from tokens.now at) }
 {
     matches!(tokens.get(at), Some(Token::Caret))
 }
 
 // Whether the token at `at` can begin an operand.
 pub(crate) fn has_operand(tokens: &[Token], at: usize) -> bool
-    ensures { result ≡ can_begin_operand (tokens_from tokens.now at) }
+    ensures { result ≡ tokens_begin_operand (tokens_from tokens.now at) }
 {
     match tokens.get(at) {
         Some(token) => token.begins_operand(),
@@ -49,7 +49,7 @@ pub(crate) fn has_operand(tokens: &[Token], at: usize) -> bool
 
 // Returns the numeral after the `|` at `at`, if both tokens are there.
 pub(crate) fn denominator_at(tokens: &[Token], at: usize) -> Option<Numeral>
-    ensures { result ≡ first_denominator (tokens_from tokens.now at) }
+    ensures { result ≡ first_token_denominator (tokens_from tokens.now at) }
 {
     if !matches!(tokens.get(at), Some(Token::Bar)) {
         return None;

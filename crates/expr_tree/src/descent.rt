@@ -3,10 +3,9 @@
 
 ghost use Rattle.std.specs.Prelude.{◌≡◌, ◌+◌, ◌<◌, ◌≤◌, ◌∷◌, true, IfOk, IfSome, Some, map};
 ghost use Rattle.std.specs.Option.{option_copied};
-ghost use Rattle.expr_tree.specs.Front.{AtomAt, ExponentAt, IsReadAt, IsSumInParens, JuxtapositionAt, PowerAt};
-ghost use Rattle.expr_tree.specs.Front.{ProductAt};
-ghost use Rattle.expr_tree.specs.Front.{SumAt, can_begin_operand, tokens_from};
-ghost use Rattle.expr_tree.specs.TokenReading.{tree_of};
+ghost use Rattle.expr_tree.specs.Front.{AtomTreeAt, ExponentTreeAt, IsSumInParens, IsTreeReadAt, JuxtapositionTreeAt};
+ghost use Rattle.expr_tree.specs.Front.{PowerTreeAt, ProductTreeAt, SumTreeAt, tokens_begin_operand, tokens_from};
+ghost use Rattle.expr_tree.specs.TokenReading.{tree_of_token_list};
 ghost use Rattle.expr_tree.specs.Rules.{WantsHead, WantsOperand, tokens_fit};
 ghost use Rattle.expr_tree.specs.TokenViews.{token_view};
 ghost use Rattle.expr_tree.specs.Tokens.{Tilde};
@@ -29,7 +28,8 @@ pub(crate) fn tree_of_tokens(
     binder: Option<&[u8]>,
 ) -> Result<Tree, AllocError>
     requires { tokens_fit WantsOperand 0 (map token_view tokens.now) ≡ true }
-    ensures { IfOk result (λ e. tree_of (option_copied binder.entry) (map token_view tokens.now) ≡ Some (syntax e)) }
+    ensures { IfOk result (λ e. tree_of_token_list (option_copied binder.entry) (map token_view tokens.now)
+        ≡ Some (syntax e)) }
 {
     match usual_tree(alloc, tokens, binder)? {
         Some(tree) => Ok(tree),
@@ -44,7 +44,7 @@ fn usual_tree(
     binder: Option<&[u8]>,
 ) -> Result<Option<Tree>, AllocError>
     ensures { IfOk result (λ found. IfSome found
-        (λ e. tree_of (option_copied binder.entry) (map token_view tokens.now) ≡ Some (syntax e))) }
+        (λ e. tree_of_token_list (option_copied binder.entry) (map token_view tokens.now) ≡ Some (syntax e))) }
 {
     match tokens {
         [only] => match only {
@@ -73,7 +73,8 @@ fn usual_tree(
 // Returns the tree of the tokens by recursive descent.
 fn tree_of_sum(alloc: Global, tokens: &[Token], binder: Option<&[u8]>) -> Result<Tree, AllocError>
     requires { tokens_fit WantsOperand 0 (map token_view tokens.now) ≡ true }
-    ensures { IfOk result (λ e. tree_of (option_copied binder.entry) (map token_view tokens.now) ≡ Some (syntax e)) }
+    ensures { IfOk result (λ e. tree_of_token_list (option_copied binder.entry) (map token_view tokens.now)
+        ≡ Some (syntax e)) }
 {
     let (tree, _) = sum_at(alloc, tokens, 0, 0, binder)?;
     Ok(tree)
@@ -89,7 +90,7 @@ fn sum_at(
 ) -> Result<(Tree, usize), AllocError>
     requires deep { opened ≤ at }
     requires fit { tokens_fit WantsOperand opened (tokens_from tokens.now at) ≡ true }
-    ensures { IsReadAt (SumAt (option_copied binder.entry) opened) tokens.now at result }
+    ensures { IsTreeReadAt (SumTreeAt (option_copied binder.entry) opened) tokens.now at result }
 {
     let (first, mut next) = product_at(alloc, tokens, at, opened, binder)?;
     if sign_at(tokens, next).is_none() {
@@ -115,7 +116,7 @@ fn product_at(
 ) -> Result<(Tree, usize), AllocError>
     requires deep { opened ≤ at }
     requires fit { tokens_fit WantsOperand opened (tokens_from tokens.now at) ≡ true }
-    ensures { IsReadAt (ProductAt (option_copied binder.entry) opened) tokens.now at result }
+    ensures { IsTreeReadAt (ProductTreeAt (option_copied binder.entry) opened) tokens.now at result }
 {
     let (first, mut next) = juxtaposition_at(alloc, tokens, at, opened, binder)?;
     if scale_at(tokens, next).is_none() {
@@ -141,7 +142,7 @@ fn juxtaposition_at(
 ) -> Result<(Tree, usize), AllocError>
     requires deep { opened ≤ at }
     requires fit { tokens_fit WantsOperand opened (tokens_from tokens.now at) ≡ true }
-    ensures { IsReadAt (JuxtapositionAt (option_copied binder.entry) opened) tokens.now at result }
+    ensures { IsTreeReadAt (JuxtapositionTreeAt (option_copied binder.entry) opened) tokens.now at result }
 {
     match sign_at(tokens, at) {
         Some(sign) => {
@@ -163,8 +164,8 @@ fn powers_at(
 ) -> Result<(Tree, usize), AllocError>
     requires deep { opened ≤ at }
     requires fit { tokens_fit WantsOperand opened (tokens_from tokens.now at) ≡ true }
-    requires begun { can_begin_operand (tokens_from tokens.now at) ≡ true }
-    ensures { IsReadAt (JuxtapositionAt (option_copied binder.entry) opened) tokens.now at result }
+    requires begun { tokens_begin_operand (tokens_from tokens.now at) ≡ true }
+    ensures { IsTreeReadAt (JuxtapositionTreeAt (option_copied binder.entry) opened) tokens.now at result }
 {
     let (first, mut next) = power_at(alloc, tokens, at, opened, binder)?;
     if !has_operand(tokens, next) {
@@ -190,8 +191,8 @@ fn power_at(
 ) -> Result<(Tree, usize), AllocError>
     requires deep { opened ≤ at }
     requires fit { tokens_fit WantsOperand opened (tokens_from tokens.now at) ≡ true }
-    requires begun { can_begin_operand (tokens_from tokens.now at) ≡ true }
-    ensures { IsReadAt (PowerAt (option_copied binder.entry) opened) tokens.now at result }
+    requires begun { tokens_begin_operand (tokens_from tokens.now at) ≡ true }
+    ensures { IsTreeReadAt (PowerTreeAt (option_copied binder.entry) opened) tokens.now at result }
 {
     let (base, next) = atom_at(alloc, tokens, at, opened, binder)?;
     if !has_caret(tokens, next) {
@@ -211,7 +212,7 @@ fn exponent_at(
 ) -> Result<(Tree, usize), AllocError>
     requires deep { opened ≤ at }
     requires fit { tokens_fit WantsOperand opened (tokens_from tokens.now at) ≡ true }
-    ensures { IsReadAt (ExponentAt (option_copied binder.entry) opened) tokens.now at result }
+    ensures { IsTreeReadAt (ExponentTreeAt (option_copied binder.entry) opened) tokens.now at result }
 {
     match sign_at(tokens, at) {
         Some(sign) => {
@@ -232,8 +233,8 @@ fn atom_at(
 ) -> Result<(Tree, usize), AllocError>
     requires deep { opened ≤ at }
     requires fit { tokens_fit WantsOperand opened (tokens_from tokens.now at) ≡ true }
-    requires begun { can_begin_operand (tokens_from tokens.now at) ≡ true }
-    ensures { IsReadAt (AtomAt (option_copied binder.entry) opened) tokens.now at result }
+    requires begun { tokens_begin_operand (tokens_from tokens.now at) ≡ true }
+    ensures { IsTreeReadAt (AtomTreeAt (option_copied binder.entry) opened) tokens.now at result }
 {
     match tokens[at] {
         Token::Numeral(n) => match denominator_at(tokens, at + 1) {
@@ -274,7 +275,7 @@ fn inverse_at(
 ) -> Result<(Tree, usize), AllocError>
     requires deep { opened < at }
     requires fit { tokens_fit WantsHead opened (tokens_from tokens.now at) ≡ true }
-    ensures { IsReadAt (λ ts. AtomAt (option_copied binder.entry) opened (Tilde ∷ ts)) tokens.now at result }
+    ensures { IsTreeReadAt (λ ts. AtomTreeAt (option_copied binder.entry) opened (Tilde ∷ ts)) tokens.now at result }
 {
     match tokens[at] {
         Token::Head(word) => {
@@ -296,7 +297,7 @@ fn closed_sum_at(
 ) -> Result<(Tree, usize), AllocError>
     requires deep { opened < at }
     requires fit { tokens_fit WantsOperand (opened + 1) (tokens_from tokens.now at) ≡ true }
-    ensures { IsReadAt (IsSumInParens (option_copied binder.entry) opened) tokens.now at result }
+    ensures { IsTreeReadAt (IsSumInParens (option_copied binder.entry) opened) tokens.now at result }
 {
     let (sum, next) = sum_at(alloc, tokens, at, opened + 1, binder)?;
     Ok((sum, next + 1))

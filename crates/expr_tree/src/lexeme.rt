@@ -4,7 +4,7 @@ ghost use Rattle.std.specs.Prelude.{◌≡◌, ◌<◌, ◌≤◌, ◌+◌, ◌^
 ghost use Rattle.std.specs.List as lists;
 ghost use Rattle.expr_tree.specs.Lexemes as spec;
 ghost use Rattle.expr_tree.specs.Names as names;
-ghost use Rattle.expr_tree.specs.TokenViews.{seen_lexeme, seen_piece};
+ghost use Rattle.expr_tree.specs.TokenViews.{seen_lexeme, seen_lexeme_piece};
 
 use crate::name::{has_power, is_name_word, is_refused, is_word_byte};
 use crate::operator::RootKind;
@@ -37,7 +37,7 @@ impl<'a> Piece<'a> {
     // Returns the lexeme at the front of a non-empty text. A point directly after a numeral is malformed.
     pub(crate) fn first(text: &'a [u8], after_numeral: bool) -> Piece<'a>
         requires { 0 < length text.now }
-        ensures is { seen_piece result ≡ spec.first_piece after_numeral text.now }
+        ensures is { seen_lexeme_piece result ≡ spec.first_lexeme_piece after_numeral text.now }
         ensures some { 0 < result.len }
         ensures within { result.len ≤ length text.now }
     {
@@ -80,7 +80,7 @@ impl Lexeme<'_> {
 // Returns the numeral at the front.
 fn numeral_piece(text: &[u8]) -> Piece<'_>
     requires { 0 < length text.now }
-    ensures is { seen_piece result ≡ spec.numeral_piece text.now }
+    ensures is { seen_lexeme_piece result ≡ spec.numeral_piece text.now }
     ensures some { 0 < result.len }
     ensures within { result.len ≤ length text.now }
 {
@@ -104,7 +104,7 @@ fn numeral_piece(text: &[u8]) -> Piece<'_>
 fn word_at_front(text: &[u8]) -> Piece<'_>
     requires word { IsTrue (names.is_word_byte (slice_index text.now 0)) }
     requires some { 0 < length text.now }
-    ensures is { seen_piece result ≡ spec.word_front text.now }
+    ensures is { seen_lexeme_piece result ≡ spec.front_word_lexeme text.now }
     ensures some { 0 < result.len }
     ensures within { result.len ≤ length text.now }
 {
@@ -133,7 +133,7 @@ fn word_piece(word: &[u8], opened: bool) -> Piece<'_>
     requires whole { lists.list_all names.is_word_byte word.now ≡ true }
     requires some { 0 < length word.now }
     requires room { length word.now + (if opened then 1 else 0) < 2 ^ 64 }
-    ensures is { seen_piece result ≡ spec.word_piece word.now opened }
+    ensures is { seen_lexeme_piece result ≡ spec.word_piece word.now opened }
     ensures some { 0 < result.len }
     ensures within { result.len ≤ length word.now + (if opened then 1 else 0) }
 {
@@ -189,7 +189,7 @@ fn word_with_power(word: &[u8]) -> Lexeme<'_>
 // Returns the lexeme of two stars, or of a byte that is a token by itself.
 fn mark_piece(text: &[u8]) -> Piece<'_>
     requires { 0 < length text.now }
-    ensures is { seen_piece result ≡ spec.mark_piece text.now }
+    ensures is { seen_lexeme_piece result ≡ spec.mark_piece text.now }
     ensures some { 0 < result.len }
     ensures within { result.len ≤ length text.now }
 {

@@ -93,7 +93,7 @@ fn is_power_byte(byte: u8) -> bool
 
 // Whether the bytes are a keyword.
 fn is_keyword(bytes: &[u8]) -> bool
-    ensures { result ≡ spec.is_word_among spec.keywords bytes.now }
+    ensures { result ≡ spec.is_expression_word_among spec.expression_keywords bytes.now }
 {
     matches!(bytes, b"per" | b"sqrt") || bytes == b"cuberoot".as_slice()
 }

@@ -2,8 +2,8 @@
 
 ghost use Rattle.std.specs.Prelude.{◌≡◌, ◌⊎◌, MatchResult, Ok, Err, Some, None};
 ghost use Rattle.std.specs.Option.{option_copied};
-ghost use Rattle.expr_tree.specs.Faults.{first_fault};
-ghost use Rattle.expr_tree.specs.Grammar.{GivesTree};
+ghost use Rattle.expr_tree.specs.Faults.{first_parse_fault};
+ghost use Rattle.expr_tree.specs.Grammar.{TokensGiveTree};
 ghost use Rattle.expr_tree.specs.Lexemes as spec;
 ghost use Rattle.expr_tree.specs.ParseResult.{parse_of};
 ghost use Rattle.expr_tree.specs.Trees.{syntax};
@@ -23,9 +23,9 @@ use std::alloc::Global;
 /// limits, and `NestedTooDeep` a token nested deeper than 64. `OutOfMemory` says that an allocation failed.
 pub fn parse_expr(alloc: Global, text: &[u8], binder: Option<&[u8]>) -> Result<Tree, ParseFault>
     ensures exact { MatchResult result
-        (λ tree. (first_fault text.now ≡ None)
-        × GivesTree (option_copied binder.entry) (spec.tokens text.now) (syntax tree))
-        (λ fault. (fault ≡ ParseFault.OutOfMemory) ⊎ (first_fault text.now ≡ Some fault)) }
+        (λ tree. (first_parse_fault text.now ≡ None)
+        × TokensGiveTree (option_copied binder.entry) (spec.tokens text.now) (syntax tree))
+        (λ fault. (fault ≡ ParseFault.OutOfMemory) ⊎ (first_parse_fault text.now ≡ Some fault)) }
     ensures computed { MatchResult result
         (λ tree. parse_of (option_copied binder.entry) text.now ≡ Ok (syntax tree))
         (λ fault. (fault ≡ ParseFault.OutOfMemory) ⊎ (parse_of (option_copied binder.entry) text.now ≡ Err fault)) }

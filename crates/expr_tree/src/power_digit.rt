@@ -3,7 +3,7 @@
 ghost use Rattle.std.specs.Prelude.{◌≡◌, ◌-◌, IsTrue, Ok};
 ghost use Rattle.frac128.specs.Decimals.{numeral_reading};
 ghost use Rattle.expr_tree.specs.Names.{is_power_byte};
-ghost use Rattle.expr_tree.specs.TokenViews.{power_numeral, seen_digit};
+ghost use Rattle.expr_tree.specs.TokenViews.{power_token_numeral, seen_token_digit};
 
 use frac128::{Numeral, read_numeral};
 
@@ -24,7 +24,7 @@ impl PowerDigit {
     // Returns the digit of an ASCII byte.
     pub(crate) fn of_byte(byte: u8) -> PowerDigit
         requires { IsTrue (is_power_byte byte) }
-        ensures { seen_digit result ≡ byte - 48 }
+        ensures { seen_token_digit result ≡ byte - 48 }
     {
         match byte {
             b'2' => PowerDigit::Two,
@@ -41,7 +41,7 @@ impl PowerDigit {
 
     // Returns the digit as a numeral.
     pub(crate) fn numeral(self) -> Numeral
-        ensures { result ≡ power_numeral self }
+        ensures { result ≡ power_token_numeral self }
     {
         match read_numeral(self.text()) {
             Ok(numeral) => numeral,
@@ -51,7 +51,7 @@ impl PowerDigit {
 
     // Returns the digit as text.
     fn text(self) -> &'static [u8]
-        ensures { numeral_reading result.now ≡ Ok (power_numeral self) }
+        ensures { numeral_reading result.now ≡ Ok (power_token_numeral self) }
     {
         match self {
             PowerDigit::Two => b"2",

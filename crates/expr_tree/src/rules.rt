@@ -2,7 +2,7 @@
 
 ghost use Rattle.std.specs.Prelude.{◌≡◌};
 ghost use Rattle.expr_tree.specs.Rules as spec;
-ghost use Rattle.expr_tree.specs.Faults.{takes_numeral};
+ghost use Rattle.expr_tree.specs.Faults.{takes_numeral_token};
 ghost use Rattle.expr_tree.specs.TokenViews.{token_view};
 
 use crate::token::Token;
@@ -68,14 +68,14 @@ impl After {
 
     // Whether a numeral may follow.
     pub(crate) fn may_take_numeral(self) -> bool
-        ensures { result ≡ takes_numeral self }
+        ensures { result ≡ takes_numeral_token self }
     {
         !matches!(self, After::WantsHead | After::WantsOpen)
     }
 
     // Whether an operand has ended.
     pub(crate) fn has_ended(self) -> bool
-        ensures { result ≡ spec.operand_has_ended self }
+        ensures { result ≡ spec.operand_tokens_have_ended self }
     {
         matches!(self, After::EndsNumeral | After::EndsOperand)
     }

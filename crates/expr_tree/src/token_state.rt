@@ -65,8 +65,8 @@ impl Standing {
         requires depth { self.now.depth < 2 ^ 32 }
         ensures { result ≡ record {
           last = spec.state_after_token (token_view token.now) self.now.last;
-          opened = spec.opened_after (token_view token.now) self.now.opened;
-          depth = spec.depth_after (token_view token.now) self.now.last self.now.depth;
+          opened = spec.open_parens_after (token_view token.now) self.now.opened;
+          depth = spec.depth_after_token (token_view token.now) self.now.last self.now.depth;
         } }
     {
         let closes = closes(token);
@@ -88,7 +88,7 @@ impl Standing {
 // Returns `n + 1` for more, `n - 1` (at least 0) for less, and otherwise `n`.
 fn adjust_count(more: bool, less: bool, n: usize) -> usize
     requires { n < 2 ^ 32 }
-    ensures { result ≡ spec.count_after more less n }
+    ensures { result ≡ spec.token_count_after more less n }
 {
     if more {
         n + 1

@@ -2,7 +2,8 @@
 
 ghost use Rattle.std.specs.Prelude.{◌≡◌, ◌++◌, ◌∷◌, [], length, OnOk, OnErr, map, option_map, slice_get};
 ghost use Rattle.std.specs.Option.{option_copied};
-ghost use Rattle.expr_tree.specs.Trees.{factor_syntax, factors_of, syntax, term, terms_of, trees_of};
+ghost use Rattle.expr_tree.specs.Trees.{factor_syntax, syntax, syntax_of_factors, syntax_of_terms, syntax_of_trees};
+ghost use Rattle.expr_tree.specs.Trees.{term_syntax};
 
 use crate::operator::{RootKind, Scale, Sign};
 use frac128::Numeral;
@@ -78,7 +79,7 @@ pub struct Terms {
 impl Trees {
     /// Returns an empty list.
     pub fn new(alloc: Global) -> Trees
-        ensures { trees_of result ≡ [] }
+        ensures { syntax_of_trees result ≡ [] }
     {
         Trees {
             items: Vec::new(alloc),
@@ -87,8 +88,8 @@ impl Trees {
 
     /// Appends a tree. If that fails, the list is unchanged.
     pub fn push(&mut self, _alloc: Global, item: Tree) -> Result<(), AllocError>
-        ensures ok { OnOk result (trees_of self.new ≡ trees_of self.old ++ syntax item ∷ []) }
-        ensures err { OnErr result (trees_of self.new ≡ trees_of self.old) }
+        ensures ok { OnOk result (syntax_of_trees self.new ≡ syntax_of_trees self.old ++ syntax item ∷ []) }
+        ensures err { OnErr result (syntax_of_trees self.new ≡ syntax_of_trees self.old) }
     {
         if self.items.is_empty() {
             self.items.reserve_exact(USUAL_MEMBERS)?;
@@ -99,21 +100,21 @@ impl Trees {
 
     /// Returns the number of trees.
     pub fn len(&self) -> usize
-        ensures { result ≡ length (trees_of self.now) }
+        ensures { result ≡ length (syntax_of_trees self.now) }
     {
         self.items.len()
     }
 
     /// Returns the trees as a slice.
     pub fn as_slice(&self) -> &[Tree]
-        ensures { map syntax result.now ≡ trees_of self.now }
+        ensures { map syntax result.now ≡ syntax_of_trees self.now }
     {
         self.items.as_slice()
     }
 
     /// Returns the tree at index `i`, or `None` if `i` is out of bounds.
     pub fn get(&self, i: usize) -> Option<&Tree>
-        ensures { option_map syntax (option_copied result) ≡ slice_get (trees_of self.now) i }
+        ensures { option_map syntax (option_copied result) ≡ slice_get (syntax_of_trees self.now) i }
     {
         self.items.get(i)
     }
@@ -122,7 +123,7 @@ impl Trees {
 impl Factors {
     /// Returns an empty list.
     pub fn new(alloc: Global) -> Factors
-        ensures { factors_of result ≡ [] }
+        ensures { syntax_of_factors result ≡ [] }
     {
         Factors {
             items: Vec::new(alloc),
@@ -131,8 +132,8 @@ impl Factors {
 
     /// Appends a member. If that fails, the list is unchanged.
     pub fn push(&mut self, _alloc: Global, item: (Scale, Tree)) -> Result<(), AllocError>
-        ensures ok { OnOk result (factors_of self.new ≡ factors_of self.old ++ factor_syntax item ∷ []) }
-        ensures err { OnErr result (factors_of self.new ≡ factors_of self.old) }
+        ensures ok { OnOk result (syntax_of_factors self.new ≡ syntax_of_factors self.old ++ factor_syntax item ∷ []) }
+        ensures err { OnErr result (syntax_of_factors self.new ≡ syntax_of_factors self.old) }
     {
         if self.items.is_empty() {
             self.items.reserve_exact(USUAL_MEMBERS)?;
@@ -143,21 +144,21 @@ impl Factors {
 
     /// Returns the number of members.
     pub fn len(&self) -> usize
-        ensures { result ≡ length (factors_of self.now) }
+        ensures { result ≡ length (syntax_of_factors self.now) }
     {
         self.items.len()
     }
 
     /// Returns the members as a slice.
     pub fn as_slice(&self) -> &[(Scale, Tree)]
-        ensures { map factor_syntax result.now ≡ factors_of self.now }
+        ensures { map factor_syntax result.now ≡ syntax_of_factors self.now }
     {
         self.items.as_slice()
     }
 
     /// Returns the member at index `i`, or `None` if `i` is out of bounds.
     pub fn get(&self, i: usize) -> Option<&(Scale, Tree)>
-        ensures { option_map factor_syntax (option_copied result) ≡ slice_get (factors_of self.now) i }
+        ensures { option_map factor_syntax (option_copied result) ≡ slice_get (syntax_of_factors self.now) i }
     {
         self.items.get(i)
     }
@@ -166,7 +167,7 @@ impl Factors {
 impl Terms {
     /// Returns an empty list.
     pub fn new(alloc: Global) -> Terms
-        ensures { terms_of result ≡ [] }
+        ensures { syntax_of_terms result ≡ [] }
     {
         Terms {
             items: Vec::new(alloc),
@@ -175,8 +176,8 @@ impl Terms {
 
     /// Appends a member. If that fails, the list is unchanged.
     pub fn push(&mut self, _alloc: Global, item: (Sign, Tree)) -> Result<(), AllocError>
-        ensures ok { OnOk result (terms_of self.new ≡ terms_of self.old ++ term item ∷ []) }
-        ensures err { OnErr result (terms_of self.new ≡ terms_of self.old) }
+        ensures ok { OnOk result (syntax_of_terms self.new ≡ syntax_of_terms self.old ++ term_syntax item ∷ []) }
+        ensures err { OnErr result (syntax_of_terms self.new ≡ syntax_of_terms self.old) }
     {
         if self.items.is_empty() {
             self.items.reserve_exact(USUAL_MEMBERS)?;
@@ -187,21 +188,21 @@ impl Terms {
 
     /// Returns the number of members.
     pub fn len(&self) -> usize
-        ensures { result ≡ length (terms_of self.now) }
+        ensures { result ≡ length (syntax_of_terms self.now) }
     {
         self.items.len()
     }
 
     /// Returns the members as a slice.
     pub fn as_slice(&self) -> &[(Sign, Tree)]
-        ensures { map term result.now ≡ terms_of self.now }
+        ensures { map term_syntax result.now ≡ syntax_of_terms self.now }
     {
         self.items.as_slice()
     }
 
     /// Returns the member at index `i`, or `None` if `i` is out of bounds.
     pub fn get(&self, i: usize) -> Option<&(Sign, Tree)>
-        ensures { option_map term (option_copied result) ≡ slice_get (terms_of self.now) i }
+        ensures { option_map term_syntax (option_copied result) ≡ slice_get (syntax_of_terms self.now) i }
     {
         self.items.get(i)
     }

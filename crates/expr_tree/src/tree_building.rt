@@ -35,7 +35,7 @@ pub(crate) fn word_tree(
     word: &[u8],
     binder: Option<&[u8]>,
 ) -> Result<Tree, AllocError>
-    ensures { IfOk result (λ e. syntax e ≡ grammar.word (option_copied binder.entry) word.now) }
+    ensures { IfOk result (λ e. syntax e ≡ grammar.word_syntax (option_copied binder.entry) word.now) }
 {
     if is_binder(binder, word) {
         return Ok(Tree::Argument);
@@ -51,8 +51,8 @@ pub(crate) fn scaled_tree(
     binder: Option<&[u8]>,
 ) -> Result<Tree, AllocError>
     ensures { IfOk result (λ e. syntax e
-        ≡ grammar.juxtaposition_syntax (syntax scale) (tree.Member (grammar.word (option_copied binder.entry) word.now)
-        tree.NoMember)) }
+        ≡ grammar.juxtaposition_syntax (syntax scale)
+        (tree.Member (grammar.word_syntax (option_copied binder.entry) word.now) tree.NoMember)) }
 {
     let word = word_tree(alloc, word, binder)?;
     let mut members = Trees::new(alloc);
@@ -68,7 +68,7 @@ pub(crate) fn call_tree(
     operand: Tree,
     binder: Option<&[u8]>,
 ) -> Result<Tree, AllocError>
-    ensures { IfOk result (λ e. syntax e ≡ grammar.call (option_copied binder.entry) word.now (syntax operand)) }
+    ensures { IfOk result (λ e. syntax e ≡ grammar.call_syntax (option_copied binder.entry) word.now (syntax operand)) }
 {
     if is_binder(binder, word) {
         return product_with_argument(alloc, operand);
@@ -79,7 +79,7 @@ pub(crate) fn call_tree(
 
 // Returns the argument times the operand.
 fn product_with_argument(alloc: Global, operand: Tree) -> Result<Tree, AllocError>
-    ensures { IfOk result (λ e. syntax e ≡ grammar.argument_times (syntax operand)) }
+    ensures { IfOk result (λ e. syntax e ≡ grammar.argument_times_syntax (syntax operand)) }
 {
     let mut members = Trees::new(alloc);
     members.push(alloc, Tree::Argument)?;

@@ -1,7 +1,7 @@
 //! Copies of trees.
 
 ghost use Rattle.std.specs.Prelude.{◌≡◌, IfOk};
-ghost use Rattle.expr_tree.specs.Trees.{factors_of, syntax, terms_of, trees_of};
+ghost use Rattle.expr_tree.specs.Trees.{syntax, syntax_of_factors, syntax_of_terms, syntax_of_trees};
 
 use crate::tree::{Factors, Terms, Tree, Trees};
 use std::alloc::{AllocError, Global};
@@ -54,7 +54,7 @@ impl Trees {
     #[cycle(copy)]
     #[tactic(auto, using(crate::proofs::Says::copies))]
     pub fn copy(&self, alloc: Global) -> Result<Trees, AllocError>
-        ensures { IfOk result (λ trees. trees_of trees ≡ trees_of self.now) }
+        ensures { IfOk result (λ trees. syntax_of_trees trees ≡ syntax_of_trees self.now) }
     {
         let mut items = Vec::with_capacity(alloc, self.items.len())?;
         for tree in &self.items {
@@ -69,7 +69,7 @@ impl Factors {
     #[cycle(copy)]
     #[tactic(auto, using(crate::proofs::Says::copies))]
     fn copy(&self, alloc: Global) -> Result<Factors, AllocError>
-        ensures { IfOk result (λ members. factors_of members ≡ factors_of self.now) }
+        ensures { IfOk result (λ members. syntax_of_factors members ≡ syntax_of_factors self.now) }
     {
         let mut items = Vec::with_capacity(alloc, self.items.len())?;
         for member in &self.items {
@@ -84,7 +84,7 @@ impl Terms {
     #[cycle(copy)]
     #[tactic(auto, using(crate::proofs::Says::copies))]
     fn copy(&self, alloc: Global) -> Result<Terms, AllocError>
-        ensures { IfOk result (λ members. terms_of members ≡ terms_of self.now) }
+        ensures { IfOk result (λ members. syntax_of_terms members ≡ syntax_of_terms self.now) }
     {
         let mut items = Vec::with_capacity(alloc, self.items.len())?;
         for member in &self.items {

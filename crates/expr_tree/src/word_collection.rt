@@ -1,7 +1,8 @@
 //! Collects the words of a tree.
 
 ghost use Rattle.std.specs.Prelude.{◌≡◌, ◌++◌, ◌∷◌, [], IfOk};
-ghost use Rattle.expr_tree.specs.Trees.{factors_of, factors_syntax, members, syntax, terms, terms_of, trees_of};
+ghost use Rattle.expr_tree.specs.Trees.{factors_syntax, members_syntax, syntax, syntax_of_factors, syntax_of_terms};
+ghost use Rattle.expr_tree.specs.Trees.{syntax_of_trees, terms_syntax};
 ghost use Rattle.expr_tree.specs.Words.{words_in, words_in_factors, words_in_members, words_in_terms};
 
 use crate::tree::{Factors, Terms, Tree, Trees};
@@ -64,7 +65,8 @@ fn put_word<'a>(
 #[cycle(put)]
 #[tactic(auto, using(crate::proofs::Says::member_words))]
 fn put_members<'a>(alloc: Global, words: &mut Words<'a>, trees: &'a Trees) -> Result<(), AllocError>
-    ensures { IfOk result (λ _. words.new ≡ words.old ++ words_in_members (members (trees_of trees.now))) }
+    ensures { IfOk result (λ _. words.new ≡ words.old
+        ++ words_in_members (members_syntax (syntax_of_trees trees.now))) }
 {
     for tree in &trees.items {
         put_words(alloc, words, tree)?;
@@ -80,7 +82,8 @@ fn put_factors<'a>(
     words: &mut Words<'a>,
     members: &'a Factors,
 ) -> Result<(), AllocError>
-    ensures { IfOk result (λ _. words.new ≡ words.old ++ words_in_factors (factors_syntax (factors_of members.now))) }
+    ensures { IfOk result (λ _. words.new ≡ words.old
+        ++ words_in_factors (factors_syntax (syntax_of_factors members.now))) }
 {
     for member in &members.items {
         put_words(alloc, words, &member.1)?;
@@ -92,7 +95,7 @@ fn put_factors<'a>(
 #[cycle(put)]
 #[tactic(auto, using(crate::proofs::Says::term_words))]
 fn put_terms<'a>(alloc: Global, words: &mut Words<'a>, members: &'a Terms) -> Result<(), AllocError>
-    ensures { IfOk result (λ _. words.new ≡ words.old ++ words_in_terms (terms (terms_of members.now))) }
+    ensures { IfOk result (λ _. words.new ≡ words.old ++ words_in_terms (terms_syntax (syntax_of_terms members.now))) }
 {
     for member in &members.items {
         put_words(alloc, words, &member.1)?;

@@ -34,7 +34,8 @@ fn put_word(
     word: &[u8],
     key: &Option<Key>,
 ) -> Result<(), AllocError>
-    ensures { OnOk result (text.new.items ≡ text.old.items ++ ((words.now ++ word.now) ++ spec.place_text key.now)) }
+    ensures { OnOk result (text.new.items ≡ text.old.items
+        ++ ((words.now ++ word.now) ++ spec.fault_place_text key.now)) }
 {
     put_named(text, words, word)?;
     put_place(text, key)
@@ -42,7 +43,7 @@ fn put_word(
 
 // Appends the definition that contains a word, if there is one.
 fn put_place(text: &mut Vec<u8>, key: &Option<Key>) -> Result<(), AllocError>
-    ensures { OnOk result (text.new.items ≡ text.old.items ++ spec.place_text key.now) }
+    ensures { OnOk result (text.new.items ≡ text.old.items ++ spec.fault_place_text key.now) }
 {
     match key {
         Some(key) => put_key_behind(text, b" in ", key),
@@ -52,7 +53,7 @@ fn put_place(text: &mut Vec<u8>, key: &Option<Key>) -> Result<(), AllocError>
 
 // Appends keys, separated by arrows.
 fn put_chain(text: &mut Vec<u8>, keys: &[Key]) -> Result<(), AllocError>
-    ensures { OnOk result (text.new.items ≡ text.old.items ++ spec.chain_text keys.now) }
+    ensures { OnOk result (text.new.items ≡ text.old.items ++ spec.fault_chain_text keys.now) }
 {
     match keys.split_first() {
         Some((first, others)) => {
@@ -65,7 +66,7 @@ fn put_chain(text: &mut Vec<u8>, keys: &[Key]) -> Result<(), AllocError>
 
 // Appends keys, each after an arrow.
 fn put_others(text: &mut Vec<u8>, keys: &[Key]) -> Result<(), AllocError>
-    ensures { OnOk result (text.new.items ≡ text.old.items ++ flat_map spec.arrow_text keys.now) }
+    ensures { OnOk result (text.new.items ≡ text.old.items ++ flat_map spec.fault_arrow_text keys.now) }
 {
     for key in keys {
         put_key_behind(text, b" -> ", key)?;

@@ -1,8 +1,8 @@
 //! The texts of value faults.
 
 ghost use Rattle.std.specs.Prelude.{◌≡◌, ◌++◌, OnOk};
-ghost use Rattle.digits_print.specs.Styles.{IsStyle};
-ghost use Rattle.quantity.specs.Text.{amount_text};
+ghost use Rattle.digits_print.specs.Styles.{IsPrintStyle};
+ghost use Rattle.quantity.specs.Text.{quantity_text};
 ghost use Rattle.fault_texts.specs.Texts as spec;
 
 use crate::text_parts::put_named;
@@ -17,7 +17,7 @@ pub fn put_value_fault(
     fault: &ValueFault,
     style: Style,
 ) -> Result<(), AllocError>
-    requires { IsStyle style }
+    requires { IsPrintStyle style }
     ensures { OnOk result (text.new.items ≡ text.old.items ++ spec.value_fault_text style fault.now) }
 {
     match fault {
@@ -44,8 +44,8 @@ fn put_unlike_sum(
     x: &Quantity,
     y: &Quantity,
 ) -> Result<(), AllocError>
-    requires { IsStyle style }
-    ensures { OnOk result (text.new.items ≡ text.old.items ++ spec.unlike_sum_text style x.now y.now) }
+    requires { IsPrintStyle style }
+    ensures { OnOk result (text.new.items ≡ text.old.items ++ spec.unlike_sum_fault_text style x.now y.now) }
 {
     put_shown(alloc, text, b"sum of unlike units: ", style, x)?;
     put_shown(alloc, text, b" and ", style, y)
@@ -59,8 +59,8 @@ fn put_shown(
     style: Style,
     x: &Quantity,
 ) -> Result<(), AllocError>
-    requires { IsStyle style }
-    ensures { OnOk result (text.new.items ≡ text.old.items ++ (words.now ++ amount_text style x.now)) }
+    requires { IsPrintStyle style }
+    ensures { OnOk result (text.new.items ≡ text.old.items ++ (words.now ++ quantity_text style x.now)) }
 {
     text.extend_from_slice(words)?;
     x.put(alloc, text, style)

@@ -12,16 +12,16 @@ pub record IsCoprime (a b : ℕ) : Type 0 where
   pub one : gcd a b ≡ 1
 
 -- numbers that have only 1 as a common divisor are coprime
-pub coprime_is : (a b : ℕ) → IsGcd a b 1 → IsCoprime a b
-coprime_is a b h = record { one = same_from_IsGcd a b _ _ (gcd_is a b) h }
+pub gcd_one_is_coprime : (a b : ℕ) → IsGcd a b 1 → IsCoprime a b
+gcd_one_is_coprime a b h = record { one = same_from_IsGcd a b _ _ (gcd_is a b) h }
 
 -- coprime numbers have only 1 as a common divisor
-pub is_coprime : (a b : ℕ) → IsCoprime a b → IsGcd a b 1
-is_coprime a b h = subst (λ g. IsGcd a b g) h.one (gcd_is a b)
+pub coprime_has_gcd_one : (a b : ℕ) → IsCoprime a b → IsGcd a b 1
+coprime_has_gcd_one a b h = subst (λ g. IsGcd a b g) h.one (gcd_is a b)
 
 -- if `d` divides the products of `c` with two coprime numbers, it divides `c`
-pub euclid_lemma : (a b c d : ℕ) → IsCoprime a b → d ∣ a * c → d ∣ b * c → d ∣ c
-euclid_lemma a b c d h p q =
+pub coprime_euclid_lemma : (a b c d : ℕ) → IsCoprime a b → d ∣ a * c → d ∣ b * c → d ∣ c
+coprime_euclid_lemma a b c d h p q =
     let whole : gcd (c * a) (c * b) ≡ c = gcd-mul c a b ∙ ap (λ g. c * g) h.one ∙ mul-one c in
     let p' = subst (λ n. d ∣ n) (mul_comm a c) p in
     let q' = subst (λ n. d ∣ n) (mul_comm b c) q in
@@ -29,24 +29,24 @@ euclid_lemma a b c d h p q =
 
 -- a number that is coprime to two numbers is coprime to their product
 pub coprime-mul : (a b c : ℕ) → IsCoprime a b → IsCoprime a c → IsCoprime a (b * c)
-coprime-mul a b c h k = coprime_is a (b * c) (
+coprime-mul a b c h k = gcd_one_is_coprime a (b * c) (
   one-dvd a,
   one-dvd (b * c),
   λ d p q.
-      (is_coprime a c k).2 d p (euclid_lemma a b c d h (dvd-mul_right_of_dvd d p c) q),
+      (coprime_has_gcd_one a c k).2 d p (coprime_euclid_lemma a b c d h (dvd-mul_right_of_dvd d p c) q),
 )
 
 -- being coprime is symmetric
 pub coprime-swap : (a b : ℕ) → IsCoprime a b → IsCoprime b a
-coprime-swap a b h = coprime_is b a (IsGcd-swap a b 1 (is_coprime a b h))
+coprime-swap a b h = gcd_one_is_coprime b a (IsGcd-swap a b 1 (coprime_has_gcd_one a b h))
 
 -- divisors of coprime numbers are coprime
 pub coprime-dvd : (a b x y : ℕ) → IsCoprime a b → x ∣ a → y ∣ b → IsCoprime x y
-coprime-dvd a b x y h p q = coprime_is x y (
+coprime-dvd a b x y h p q = gcd_one_is_coprime x y (
   one-dvd x,
   one-dvd y,
   λ d s t.
-      (is_coprime a b h).2 d (dvd_trans d s p) (dvd_trans d t q),
+      (coprime_has_gcd_one a b h).2 d (dvd_trans d s p) (dvd_trans d t q),
 )
 
 -- two numbers divided by their greatest common divisor are coprime

@@ -29,9 +29,9 @@ pub gcd_zero : (a : ℕ) → gcd a 0 ≡ a
 gcd_zero a = same_from_IsGcd a 0 _ _ (gcd_is a 0) (IsGcd-from_zero a 0 refl)
 
 -- the remainder of multiples is the multiple of the remainder
-mul-mod-mul : (m a b : ℕ) → (m * a) % (m * b) ≡ m * (a % b)
-mul-mod-mul zero a b = rw (zero-mul a, zero-mul b, zero-mul (a % b)) refl
-mul-mod-mul (suc m) a b =
+gcd_mul-mod-mul : (m a b : ℕ) → (m * a) % (m * b) ≡ m * (a % b)
+gcd_mul-mod-mul zero a b = rw (zero-mul a, zero-mul b, zero-mul (a % b)) refl
+gcd_mul-mod-mul (suc m) a b =
     mod-eq-sub-mul-div (suc m * a) (suc m * b)
     ∙ ap (λ q. suc m * a - suc m * b * q) (mul-div-mul_left a b (omega arith))
     ∙ ap (λ q. suc m * a - q) (mul_assoc (suc m) b (a / b))
@@ -39,19 +39,20 @@ mul-mod-mul (suc m) a b =
     ∙ ap (λ q. suc m * q) (sym (mod-eq-sub-mul-div a b))
 
 -- Euclid's steps on multiples are multiples of the steps
-multiples : (steps m a b : ℕ) → b < suc steps → IsGcd (m * a) (m * b) (m * gcd_within steps a b)
+gcd_within_of_multiples : (steps m a b : ℕ) → b < suc steps → IsGcd (m * a) (m * b) (m * gcd_within steps a b)
 unfolding gcd_within
-multiples steps m a zero h = IsGcd-from_zero (m * a) (m * 0) (omega arith)
-multiples zero m a (suc b) h = absurd (omega arith)
-multiples (suc steps) m a (suc b) h =
+gcd_within_of_multiples steps m a zero h = IsGcd-from_zero (m * a) (m * 0) (omega arith)
+gcd_within_of_multiples zero m a (suc b) h = absurd (omega arith)
+gcd_within_of_multiples (suc steps) m a (suc b) h =
     let least : a % suc b < suc b = mod-lt a (omega arith) in
-    let rest = multiples steps m (suc b) (a % suc b) (omega arith) in
-    IsGcd-from_mod (m * a) (m * suc b) _ (rw (mul-mod-mul m a (suc b)) rest)
+    let rest = gcd_within_of_multiples steps m (suc b) (a % suc b) (omega arith) in
+    IsGcd-from_mod (m * a) (m * suc b) _ (rw (gcd_mul-mod-mul m a (suc b)) rest)
 
 -- the greatest common divisor of multiples is the multiple of the greatest common divisor
 pub gcd-mul : (m a b : ℕ) → gcd (m * a) (m * b) ≡ m * gcd a b
 unfolding gcd
-gcd-mul m a b = same_from_IsGcd (m * a) (m * b) _ _ (gcd_is (m * a) (m * b)) (multiples b m a b (omega arith))
+gcd-mul m a b = same_from_IsGcd (m * a) (m * b) _ _ (gcd_is (m * a) (m * b))
+    (gcd_within_of_multiples b m a b (omega arith))
 
 -- the greatest common divisor with a number above 0 is above 0
 pub gcd_some : (a b : ℕ) → 0 < b → 0 < gcd a b

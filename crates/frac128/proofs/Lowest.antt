@@ -4,15 +4,15 @@ use Rattle.std.specs.Int.{IsGcd}
 use Rattle.std.proofs.Math.Nat.{mul_comm, mul_assoc, dvd-mul_left, mul-div_cancel', mul-div_cancel_left, mul-one}
 use Rattle.std.proofs.Math.Nat.{mul-pos, mul-zero}
 use Prim.Native.Nat.{◌∣◌}
-use Rattle.frac128.specs.Divisors.{IsLowest, gcd}
+use Rattle.frac128.specs.Divisors.{IsLowestTerms, gcd}
 use Rattle.frac128.proofs.Euclid.{gcd_is, gcd-mul, gcd_some}
-use Rattle.frac128.proofs.Coprime.{IsCoprime, coprime_is, is_coprime, coprime-mul, coprime-swap, coprime-dvd}
-use Rattle.frac128.proofs.Coprime.{coprime-quotients}
+use Rattle.frac128.proofs.Coprime.{IsCoprime, gcd_one_is_coprime, coprime_has_gcd_one, coprime-mul, coprime-swap}
+use Rattle.frac128.proofs.Coprime.{coprime-dvd, coprime-quotients}
 
 -- coprime numbers multiplied by the same number have these coprime numbers as their lowest terms
-lowest-mul : (a b m top bottom : ℕ) → m * top ≡ a → m * bottom ≡ b → 0 < m → IsCoprime top bottom
-    → IsLowest a b top bottom
-lowest-mul a b m top bottom p q some h =
+lowest_terms-mul : (a b m top bottom : ℕ) → m * top ≡ a → m * bottom ≡ b → 0 < m → IsCoprime top bottom
+    → IsLowestTerms a b top bottom
+lowest_terms-mul a b m top bottom p q some h =
     let whole : gcd a b ≡ m = rw (← p, ← q) (gcd-mul m top bottom ∙ ap (λ g. m * g) h.one ∙ mul-one m) in
     record {
       top_is = ap (λ g. a / g) whole ∙ rw (← p) (mul-div_cancel_left top some);
@@ -20,9 +20,9 @@ lowest-mul a b m top bottom p q some h =
     }
 
 -- a product that is reduced crosswise first is in lowest terms
-pub lowest-crosswise : (a b c d : ℕ) → 0 < b → 0 < d → IsCoprime a b → IsCoprime c d
-    → IsLowest (a * c) (b * d) (a / gcd a d * (c / gcd c b)) (b / gcd c b * (d / gcd a d))
-lowest-crosswise a b c d some_b some_d ab cd =
+pub lowest_terms-crosswise : (a b c d : ℕ) → 0 < b → 0 < d → IsCoprime a b → IsCoprime c d
+    → IsLowestTerms (a * c) (b * d) (a / gcd a d * (c / gcd c b)) (b / gcd c b * (d / gcd a d))
+lowest_terms-crosswise a b c d some_b some_d ab cd =
     let g = gcd a d in
     let h = gcd c b in
     let some_g : 0 < g = gcd_some a d some_d in
@@ -47,7 +47,7 @@ lowest-crosswise a b c d some_b some_d ab cd =
     let top : g * h * (a / g * (c / h)) ≡ a * c = four g h (a / g) (c / h) ∙ rw (a_is, c_is) refl in
     let bottom : g * h * (b / h * (d / g)) ≡ b * d = ap (λ n. n * (b / h * (d / g))) (mul_comm g h)
     ∙ four h g (b / h) (d / g) ∙ rw (b_is, d_is) refl in
-    lowest-mul _ _ (g * h) _ _ top bottom (product_some g h some_g some_h) coprime
+    lowest_terms-mul _ _ (g * h) _ _ top bottom (product_some g h some_g some_h) coprime
   where
     four : (m n x y : ℕ) → m * n * (x * y) ≡ m * x * (n * y)
     four m n x y = mul_assoc m n (x * y)
@@ -58,26 +58,26 @@ lowest-crosswise a b c d some_b some_d ab cd =
     product_some m n p q = mul-pos p q
 
 -- a product that is reduced crosswise by the two divisors is in lowest terms
-pub lowest_by : (a b c d g h : ℕ) → g ≡ gcd a d → h ≡ gcd c b → 0 < b → 0 < d → IsGcd a b 1 → IsGcd c d 1
-    → IsLowest (a * c) (b * d) (a / g * (c / h)) (b / h * (d / g))
-lowest_by a b c d g h p q some_b some_d ab cd =
-    rw (p, q) (lowest-crosswise a b c d some_b some_d (coprime_is a b ab) (coprime_is c d cd))
+pub lowest_terms_by_gcds : (a b c d g h : ℕ) → g ≡ gcd a d → h ≡ gcd c b → 0 < b → 0 < d → IsGcd a b 1 → IsGcd c d 1
+    → IsLowestTerms (a * c) (b * d) (a / g * (c / h)) (b / h * (d / g))
+lowest_terms_by_gcds a b c d g h p q some_b some_d ab cd =
+    rw (p, q) (lowest_terms-crosswise a b c d some_b some_d (gcd_one_is_coprime a b ab) (gcd_one_is_coprime c d cd))
 
 -- a ratio in lowest terms has no common divisor but 1
-pub lowest_gcd : (a b top bottom : ℕ) → 0 < b → IsLowest a b top bottom → IsGcd top bottom 1
-lowest_gcd a b top bottom some low =
-    rw (← low.top_is, ← low.bottom_is) (is_coprime _ _ (coprime-quotients a b (gcd_some a b some)))
+pub lowest_terms_gcd : (a b top bottom : ℕ) → 0 < b → IsLowestTerms a b top bottom → IsGcd top bottom 1
+lowest_terms_gcd a b top bottom some low =
+    rw (← low.top_is, ← low.bottom_is) (coprime_has_gcd_one _ _ (coprime-quotients a b (gcd_some a b some)))
 
 -- the denominator of a ratio in lowest terms is above 0
-pub lowest_some : (a b top bottom : ℕ) → 0 < b → IsLowest a b top bottom → 0 < bottom
-lowest_some a b top zero some low =
+pub lowest_terms_denominator_some : (a b top bottom : ℕ) → 0 < b → IsLowestTerms a b top bottom → 0 < bottom
+lowest_terms_denominator_some a b top zero some low =
     let none : gcd a b * 0 ≡ b = ap (λ n. gcd a b * n) (sym low.bottom_is) ∙ mul-div_cancel' (gcd a b) (gcd_is a b).1 in
     absurd (omega (arith, mul-zero (gcd a b)))
-lowest_some a b top (suc bottom) some low = omega arith
+lowest_terms_denominator_some a b top (suc bottom) some low = omega arith
 
 -- coprime numbers whose ratio is a / d are a / d in lowest terms
-pub lowest-cross : (a d p q : ℕ) → 0 < d → 0 < q → IsCoprime p q → p * d ≡ a * q → IsLowest a d p q
-lowest-cross a d p q some some_q coprime cross =
+pub lowest_terms-cross : (a d p q : ℕ) → 0 < d → 0 < q → IsCoprime p q → p * d ≡ a * q → IsLowestTerms a d p q
+lowest_terms-cross a d p q some some_q coprime cross =
     let g = gcd a d in
     let some_g : 0 < g = gcd_some a d some in
     let whole : d ≡ q * g =
@@ -92,13 +92,13 @@ lowest-cross a d p q some some_q coprime cross =
     record { top_is = ap (λ n. n / g) top_times ∙ mul-div_cancel_left p some_g; bottom_is = bottom }
 
 -- a ratio in lowest terms has the value of the ratio
-pub cross-lowest : (a d p q : ℕ) → IsLowest a d p q → p * d ≡ a * q
-cross-lowest a d p q low =
+pub cross-lowest_terms : (a d p q : ℕ) → IsLowestTerms a d p q → p * d ≡ a * q
+cross-lowest_terms a d p q low =
     let g = gcd a d in
     let a_is : g * p ≡ a = ap (λ n. g * n) (sym low.top_is) ∙ mul-div_cancel' g (gcd_is a d).0 in
     let d_is : g * q ≡ d = ap (λ n. g * n) (sym low.bottom_is) ∙ mul-div_cancel' g (gcd_is a d).1 in
     ap (λ n. p * n) (sym d_is) ∙ sym (mul_assoc p g q) ∙ ap (λ n. n * q) (mul_comm p g ∙ a_is)
 
 -- a ratio of coprime numbers is in lowest terms
-pub lowest_self : (a b : ℕ) → 0 < b → IsCoprime a b → IsLowest a b a b
-lowest_self a b some h = lowest-cross a b a b some some h refl
+pub coprime_ratio_is_lowest_terms : (a b : ℕ) → 0 < b → IsCoprime a b → IsLowestTerms a b a b
+coprime_ratio_is_lowest_terms a b some h = lowest_terms-cross a b a b some some h refl

@@ -2,8 +2,7 @@
 use Rattle.std.proofs.Common.{◌≡◌, ◌*◌, ◌/◌, ◌<◌, ℕ, refl, sym, ap, subst, ◌∙◌}
 use Rattle.std.specs.Int.{◌∣◌}
 use Rattle.std.proofs.Math.Nat.{dvd-mul_left, dvd-mul_right, dvd_of_mul-dvd-mul_right, mul-div_cancel'}
-use Rattle.std.proofs.Math.Nat.{mul-dvd-mul_left, mul_assoc}
-use Rattle.std.proofs.Math.Nat.{mul_comm}
+use Rattle.std.proofs.Math.Nat.{mul-dvd-mul_left, mul_assoc, mul_comm}
 use Rattle.frac128.specs.Divisors.{LcmLaw, gcd, lcm}
 use Rattle.frac128.proofs.Euclid.{gcd_is, gcd-mul, gcd_some}
 

@@ -31,10 +31,10 @@ abbrev pub LcmLaw : Type 0
 LcmLaw = (a b : ℕ) → 0 < b → IsLcm a b (lcm a b)
 
 -- top / bottom is a / b in lowest terms
-pub record IsLowest (a b top bottom : ℕ) : Type 0 where
+pub record IsLowestTerms (a b top bottom : ℕ) : Type 0 where
   pub top_is : a / gcd a b ≡ top
   pub bottom_is : b / gcd a b ≡ bottom
 
 -- in lowest terms a / b has a part of more than 128 bits
-abbrev pub IsWide : ℕ → ℕ → Type 0
-IsWide a b = (2 ^ 128 ≤ a / gcd a b) ⊎ (2 ^ 128 ≤ b / gcd a b)
+abbrev pub HasWideLowestTerms : ℕ → ℕ → Type 0
+HasWideLowestTerms a b = (2 ^ 128 ≤ a / gcd a b) ⊎ (2 ^ 128 ≤ b / gcd a b)

@@ -14,58 +14,59 @@ suffix_from test [] = []
 suffix_from test (x ∷ xs) = if test x then x ∷ xs else suffix_from test xs
 
 -- a decimal digit
-abbrev pub is_digit : ℕ → Bool
-is_digit b = nat_le 48 b && nat_le b 57
+abbrev pub is_numeral_digit : ℕ → Bool
+is_numeral_digit b = nat_le 48 b && nat_le b 57
 
 -- the byte `.`
-abbrev pub is_point_byte : ℕ → Bool
-is_point_byte b = b == 46
+abbrev pub is_numeral_point : ℕ → Bool
+is_numeral_point b = b == 46
 
 -- the byte `E` or `e`
-abbrev pub is_mark_byte : ℕ → Bool
-is_mark_byte b = b == 69 || b == 101
+abbrev pub is_numeral_exponent_mark : ℕ → Bool
+is_numeral_exponent_mark b = b == 69 || b == 101
 
 -- the byte `-`
-abbrev pub is_minus_byte : ℕ → Bool
-is_minus_byte b = b == 45
+abbrev pub is_numeral_minus : ℕ → Bool
+is_numeral_minus b = b == 45
 
 -- the byte `+` or `-`
-abbrev pub is_sign_byte : ℕ → Bool
-is_sign_byte b = b == 43 || is_minus_byte b
+abbrev pub is_numeral_sign : ℕ → Bool
+is_numeral_sign b = b == 43 || is_numeral_minus b
 
 -- one digit or more, and nothing else
-abbrev pub are_digits : List ℕ → Bool
-are_digits bytes = list_any is_digit bytes && list_all is_digit bytes
+abbrev pub are_numeral_digits : List ℕ → Bool
+are_numeral_digits bytes = list_any is_numeral_digit bytes && list_all is_numeral_digit bytes
 
 -- digits, with at most one point before, among or after them
-abbrev pub is_pointed : List ℕ → Bool
-is_pointed bytes =
-    list_all is_digit (prefix_until is_point_byte bytes)
-    && list_all is_digit (drop 1 (suffix_from is_point_byte bytes))
+abbrev pub is_pointed_numeral : List ℕ → Bool
+is_pointed_numeral bytes =
+    list_all is_numeral_digit (prefix_until is_numeral_point bytes)
+    && list_all is_numeral_digit (drop 1 (suffix_from is_numeral_point bytes))
 
 -- one digit or more, with at most one point before, among or after them
-abbrev pub is_mantissa : List ℕ → Bool
-is_mantissa bytes = list_any is_digit bytes && is_pointed bytes
+abbrev pub is_numeral_mantissa : List ℕ → Bool
+is_numeral_mantissa bytes = list_any is_numeral_digit bytes && is_pointed_numeral bytes
 
 -- the bytes after a sign at the front, or all bytes if there is no sign
-abbrev pub behind_sign : List ℕ → List ℕ
-behind_sign [] = []
-behind_sign (b ∷ bytes) = if is_sign_byte b then bytes else b ∷ bytes
+abbrev pub after_numeral_sign : List ℕ → List ℕ
+after_numeral_sign [] = []
+after_numeral_sign (b ∷ bytes) = if is_numeral_sign b then bytes else b ∷ bytes
 
 -- nothing, or a mark, an optional sign, and one digit or more
-abbrev pub is_exponent_text : List ℕ → Bool
-is_exponent_text [] = true
-is_exponent_text (mark ∷ bytes) = are_digits (behind_sign bytes)
+abbrev pub is_numeral_exponent_part : List ℕ → Bool
+is_numeral_exponent_part [] = true
+is_numeral_exponent_part (mark ∷ bytes) = are_numeral_digits (after_numeral_sign bytes)
 
 -- the bytes are a numeral: a mantissa before the first mark, and an exponent from there on
 abbrev pub is_numeral : List ℕ → Bool
-is_numeral bytes = is_mantissa (prefix_until is_mark_byte bytes) && is_exponent_text (suffix_from is_mark_byte bytes)
+is_numeral bytes = is_numeral_mantissa (prefix_until is_numeral_exponent_mark bytes) && is_numeral_exponent_part
+    (suffix_from is_numeral_exponent_mark bytes)
 
 -- the greatest number from 1 to n that passes the test, or 0 if none does
-unfoldable pub greatest_passing : (ℕ → Bool) → ℕ → ℕ
-greatest_passing test zero = 0
-greatest_passing test (suc n) = if test (suc n) then suc n else greatest_passing test n
+unfoldable pub greatest_whole_passing : (ℕ → Bool) → ℕ → ℕ
+greatest_whole_passing test zero = 0
+greatest_whole_passing test (suc n) = if test (suc n) then suc n else greatest_whole_passing test n
 
 -- the length of the longest numeral that is a prefix, or 0 if there is none
-abbrev pub numeral_len_of : List ℕ → ℕ
-numeral_len_of bytes = greatest_passing (λ n. is_numeral (take n bytes)) (length bytes)
+abbrev pub longest_numeral_len : List ℕ → ℕ
+longest_numeral_len bytes = greatest_whole_passing (λ n. is_numeral (take n bytes)) (length bytes)

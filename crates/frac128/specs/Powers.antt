@@ -10,6 +10,6 @@ abbrev pub power_fraction : Fraction → ℕ → Fraction
 power_fraction x n = record { num = int_pow x.num n; den = x.den ^ n }
 
 -- x to the power k: the quotient of the two powers, inverted if k is below 0
-abbrev pub power : Fraction → ℤ → Result Fraction FracFault
-power x (pos n) = ratio (int_pow x.num n) (pos (x.den ^ n))
-power x (negsuc n) = ratio (pos (x.den ^ suc n)) (int_pow x.num (suc n))
+abbrev pub fraction_power : Fraction → ℤ → Result Fraction FracFault
+fraction_power x (pos n) = ratio (int_pow x.num n) (pos (x.den ^ n))
+fraction_power x (negsuc n) = ratio (pos (x.den ^ suc n)) (int_pow x.num (suc n))

@@ -4,11 +4,11 @@ use Rattle.std.specs.Prelude.{if◌then◌else◌, Result, Ok, Err}
 use Rattle.frac128.specs.declared.fault.FracFault.{FracFault}
 use Rattle.frac128.specs.declared.fault.FracFault.TheVariants.{Overflow, DivisionByZero}
 use Rattle.frac128.specs.Divisors.{gcd}
-use Rattle.frac128.specs.Fraction.{Fraction, IsReduced, SameValue, fits_most}
+use Rattle.frac128.specs.Fraction.{AreEquivalentFractions, Fraction, IsReducedFraction, fraction_fits}
 
 -- a fraction that fits, or overflow
-abbrev pub fit_or_overflow : Fraction → Result Fraction FracFault
-fit_or_overflow x = if fits_most x then Ok x else Err Overflow
+abbrev pub fraction_or_overflow : Fraction → Result Fraction FracFault
+fraction_or_overflow x = if fraction_fits x then Ok x else Err Overflow
 
 -- n over d in lowest terms
 unfoldable pub lowest_terms : ℤ → ℕ → Fraction
@@ -17,17 +17,17 @@ lowest_terms n d =
     record { num = int_div n (pos divisor); den = d / divisor }
 
 -- law: `lowest_terms` gives a reduced fraction, and every reduced fraction with the value n over d is this one
-abbrev pub ReducedLaw : Type 0
-ReducedLaw = (n : ℤ) (d : ℕ) → 0 < d
-    → IsReduced (lowest_terms n d) × SameValue (lowest_terms n d) (record { num = n; den = d })
-    × ((x : Fraction) → IsReduced x → SameValue x (record { num = n; den = d })
+abbrev pub ReducedFractionLaw : Type 0
+ReducedFractionLaw = (n : ℤ) (d : ℕ) → 0 < d
+    → IsReducedFraction (lowest_terms n d) × AreEquivalentFractions (lowest_terms n d) (record { num = n; den = d })
+    × ((x : Fraction) → IsReducedFraction x → AreEquivalentFractions x (record { num = n; den = d })
     → x ≡ lowest_terms n d)
 
 -- the quotient of two whole numbers in lowest terms
 abbrev pub ratio : ℤ → ℤ → Result Fraction FracFault
 ratio n (pos zero) = Err DivisionByZero
-ratio n (pos (suc d)) = fit_or_overflow (lowest_terms n (suc d))
-ratio n (negsuc d) = fit_or_overflow (lowest_terms (neg_ℤ n) (suc d))
+ratio n (pos (suc d)) = fraction_or_overflow (lowest_terms n (suc d))
+ratio n (negsuc d) = fraction_or_overflow (lowest_terms (neg_ℤ n) (suc d))
 
 -- the product of two fractions
 abbrev pub fraction_product : Fraction → Fraction → Result Fraction FracFault

@@ -3,9 +3,10 @@
 ghost use Rattle.std.specs.Prelude.{◌≡◌, ◌<◌, ◌≤◌, ◌↔◌, pos, int_lt, unsigned_abs, IsTrue};
 ghost use Rattle.std.specs.Int.{IsGcd};
 ghost use Rattle.frac128.specs.Divisors as spec;
-ghost use Rattle.frac128.specs.Fraction.{IsFrac, IsReduced, most, negative_of, whole};
+ghost use Rattle.frac128.specs.Fraction.{IsFrac, IsReducedFraction, largest_fraction_part, opposite_fraction};
+ghost use Rattle.frac128.specs.Fraction.{whole_fraction};
 ghost use Rattle.frac128.specs.Sign as sign;
-ghost use Rattle.frac128.specs.Steps.{fit_or_overflow, ratio};
+ghost use Rattle.frac128.specs.Steps.{fraction_or_overflow, ratio};
 
 use crate::divisors::{gcd, quotient};
 use crate::fault::FracFault;
@@ -72,7 +73,7 @@ impl Frac {
 
     /// Returns the fraction with the opposite sign.
     pub fn negate(&self) -> Frac
-        ensures { result ≡ negative_of self.now }
+        ensures { result ≡ opposite_fraction self.now }
     {
         Frac {
             num: -self.num,
@@ -91,7 +92,7 @@ impl Frac {
     pub(crate) fn top(&self) -> u128
         ensures is { result ≡ unsigned_abs self.now.num }
         ensures lowest { IsGcd result self.now.den 1 }
-        ensures fits { result ≤ most }
+        ensures fits { result ≤ largest_fraction_part }
     {
         self.num.unsigned_abs()
     }
@@ -99,17 +100,17 @@ impl Frac {
     // The denominator, by its magnitude.
     pub(crate) fn bottom(&self) -> u128
         ensures is { result ≡ self.now.den }
-        ensures reduced { IsReduced self.now }
+        ensures reduced { IsReducedFraction self.now }
         ensures some { 0 < result }
-        ensures fits { result ≤ most }
+        ensures fits { result ≤ largest_fraction_part }
     {
         self.den
     }
 
     // The whole number as a fraction.
     pub(crate) fn whole(n: i128) -> Frac
-        requires { unsigned_abs n ≤ most }
-        ensures { result ≡ whole n }
+        requires { unsigned_abs n ≤ largest_fraction_part }
+        ensures { result ≡ whole_fraction n }
     {
         Frac { num: n, den: 1 }
     }
@@ -122,7 +123,7 @@ impl Frac {
     ) -> Result<Frac, FracFault>
         requires some { 0 < bottom }
         requires lowest { IsGcd top bottom 1 }
-        ensures { result ≡ fit_or_overflow (record { num = sign.number_with_sign negative top; den = bottom }) }
+        ensures { result ≡ fraction_or_overflow (record { num = sign.signed_numerator negative top; den = bottom }) }
     {
         if top > MOST || bottom > MOST {
             return Err(FracFault::Overflow);
@@ -140,7 +141,7 @@ impl Frac {
     ) -> Result<Frac, FracFault>
         requires some { 0 < bottom }
         requires divisor { divisor ≡ spec.gcd top bottom }
-        ensures { result ≡ ratio (sign.number_with_sign negative top) (pos bottom) }
+        ensures { result ≡ ratio (sign.signed_numerator negative top) (pos bottom) }
     {
         Frac::of_lowest_terms(negative, quotient(top, divisor), quotient(bottom, divisor))
     }

@@ -1,8 +1,8 @@
 //! Decimal numerals as a coefficient and a power of ten, and their values.
 
 ghost use Rattle.std.specs.Prelude.{◌≡◌, ◌+◌, ◌<◌, ◌≤◌, ◌*◌, ◌^◌, pos, unsigned_abs, SomeIff};
-ghost use Rattle.frac128.specs.Decimals.{value_of_decimal};
-ghost use Rattle.frac128.specs.Fraction.{most};
+ghost use Rattle.frac128.specs.Decimals.{fraction_of_decimal};
+ghost use Rattle.frac128.specs.Fraction.{largest_fraction_part};
 ghost use Rattle.frac128.specs.Steps.{ratio};
 
 use crate::fault::FracFault;
@@ -32,36 +32,38 @@ pub struct Numeral {
 impl Model for Numeral {
     ghost use Rattle.std.specs.Prelude.{◌≤◌, ◌<◌, ◌+◌, ◌*◌, ◌/◌, ◌%◌, ◌^◌};
     ghost use Rattle.std.proofs.lemmas.Nat.{mod_low};
-    ghost use Rattle.frac128.specs.Decimals.{Decimal};
-    ghost use Rattle.frac128.specs.Fraction.{most};
-    ghost use Rattle.frac128.specs.Words.{distance, high_again, tens_again, with_sign_of};
+    ghost use Rattle.frac128.specs.Decimals.{NumeralDecimal};
+    ghost use Rattle.frac128.specs.Fraction.{largest_fraction_part};
+    ghost use Rattle.frac128.specs.Words.{numeral_high_word_is_rebuilt, numeral_word_distance, numeral_word_with_sign};
+    ghost use Rattle.frac128.specs.Words.{sign_keeps_numeral_word_distance};
 
-    ghost Value = { Decimal };
+    ghost Value = { NumeralDecimal };
 
     ghost view = { λ x. record {
-      coefficient = distance x.high * 2 ^ 64 + x.low;
-      scale = with_sign_of x.high x.tens;
+      coefficient = numeral_word_distance x.high * 2 ^ 64 + x.low;
+      scale = numeral_word_with_sign x.high x.tens;
     } };
 
-    ghost invariant = { λ x. (x.low < 2 ^ 64) × (distance x.high * 2 ^ 64 + x.low ≤ most) };
+    ghost invariant = { λ x. (x.low < 2 ^ 64)
+        × (numeral_word_distance x.high * 2 ^ 64 + x.low ≤ largest_fraction_part) };
 
     ghost inverse = { λ x. record {
-      high = with_sign_of x.scale (x.coefficient / 2 ^ 64);
+      high = numeral_word_with_sign x.scale (x.coefficient / 2 ^ 64);
       low = x.coefficient % 2 ^ 64;
-      tens = distance x.scale;
+      tens = numeral_word_distance x.scale;
     } };
 
     ghost inverse_ok = { λ x h i. record {
-      high = high_again x.high x.tens x.low h.0 i;
-      low = mod_low (distance x.high) 64 x.low h.0 i;
-      tens = tens_again x.high x.tens i;
+      high = numeral_high_word_is_rebuilt x.high x.tens x.low h.0 i;
+      low = mod_low (numeral_word_distance x.high) 64 x.low h.0 i;
+      tens = sign_keeps_numeral_word_distance x.high x.tens i;
     } };
 }
 
 impl Numeral {
     // The coefficient times ten to the scale.
     pub(crate) fn new(coefficient: u128, scale: i128) -> Numeral
-        requires coefficient { coefficient ≤ most }
+        requires coefficient { coefficient ≤ largest_fraction_part }
         requires scale { unsigned_abs scale < 2 ^ 64 }
         ensures { result ≡ record { coefficient = coefficient; scale = scale } }
     {
@@ -85,7 +87,7 @@ impl Numeral {
     /// Returns the coefficient, which is multiplied by the power of ten.
     pub fn coefficient(&self) -> u128
         ensures is { result ≡ self.now.coefficient }
-        ensures fits { result ≤ most }
+        ensures fits { result ≤ largest_fraction_part }
     {
         let high = if self.high < 0 {
             -1 - self.high
@@ -108,7 +110,7 @@ impl Numeral {
 
     /// Returns the value, or `Overflow` if it does not fit.
     pub fn value(&self) -> Result<Frac, FracFault>
-        ensures { result ≡ value_of_decimal self.now }
+        ensures { result ≡ fraction_of_decimal self.now }
     {
         let coefficient = self.coefficient();
         if coefficient == 0 {
@@ -127,7 +129,7 @@ impl Numeral {
 // A number above 0 times ten to a power.
 fn scaled_up(n: u128, power: u128) -> Result<Frac, FracFault>
     requires some { 0 < n }
-    requires fits { n ≤ most }
+    requires fits { n ≤ largest_fraction_part }
     ensures { result ≡ ratio (pos (n * 10 ^ power)) (pos 1) }
 {
     // Most numerals are whole numbers.
@@ -143,7 +145,7 @@ fn scaled_up(n: u128, power: u128) -> Result<Frac, FracFault>
 // A number above 0 over ten to a power.
 fn scaled_down(n: u128, power: u128) -> Result<Frac, FracFault>
     requires some { 0 < n }
-    requires fits { n ≤ most }
+    requires fits { n ≤ largest_fraction_part }
     ensures { result ≡ ratio (pos n) (pos (10 ^ power)) }
 {
     match power_of_ten(power) {
@@ -156,7 +158,7 @@ fn scaled_down(n: u128, power: u128) -> Result<Frac, FracFault>
 // too, the denominator does not fit even in lowest terms.
 fn scaled_down_twice(n: u128, power: u128) -> Result<Frac, FracFault>
     requires some { 0 < n }
-    requires fits { n ≤ most }
+    requires fits { n ≤ largest_fraction_part }
     ensures { result ≡ ratio (pos n) (pos (10 ^ (38 + power))) }
 {
     let Some(divisor) = power_of_ten(power) else {

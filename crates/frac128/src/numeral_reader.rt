@@ -3,7 +3,7 @@
 ghost use Rattle.std.specs.Prelude.{◌≡◌, ◌<◌, ◌≤◌, ◌+◌, ◌*◌, ◌^◌, true, length, take, SomeIff};
 ghost use Rattle.std.specs.List.{list_all, list_any};
 ghost use Rattle.frac128.specs.Decimals as spec;
-ghost use Rattle.frac128.specs.Fraction.{most};
+ghost use Rattle.frac128.specs.Fraction.{largest_fraction_part};
 ghost use Rattle.frac128.specs.Numerals as numerals;
 
 use crate::fraction::MOST;
@@ -31,9 +31,9 @@ pub fn read_numeral(bytes: &[u8]) -> Result<Numeral, NumeralFault>
 /// Reads the longest numeral at the front of `bytes`. Returns its length in bytes and the numeral
 /// or `TooLong`, or 0 and `NotNumeral` if there is none.
 pub fn read_longest(bytes: &[u8]) -> (usize, Result<Numeral, NumeralFault>)
-    ensures len { result.0 ≡ numerals.numeral_len_of bytes.now }
+    ensures len { result.0 ≡ numerals.longest_numeral_len bytes.now }
     ensures within { result.0 ≤ length bytes.now }
-    ensures numeral { result.1 ≡ spec.numeral_reading (take (numerals.numeral_len_of bytes.now) bytes.now) }
+    ensures numeral { result.1 ≡ spec.numeral_reading (take (numerals.longest_numeral_len bytes.now) bytes.now) }
 {
     let digits = whole_len(bytes);
     if digits > 0 {
@@ -49,7 +49,7 @@ pub fn read_longest(bytes: &[u8]) -> (usize, Result<Numeral, NumeralFault>)
 // Reads a run of digits, which is a numeral without a point and an exponent.
 fn read_digits(bytes: &[u8]) -> Result<Numeral, NumeralFault>
     requires some { 0 < length bytes.now }
-    requires digits { list_all numerals.is_digit bytes.now ≡ true }
+    requires digits { list_all numerals.is_numeral_digit bytes.now ≡ true }
     ensures { result ≡ spec.numeral_reading bytes.now }
 {
     let Some((coefficient, zeros)) = significant(bytes) else {
@@ -89,7 +89,7 @@ fn is_numeral(bytes: &[u8]) -> bool
 
 // The index of the first `e` or `E`, or the length if there is none.
 fn mark_place(bytes: &[u8]) -> usize
-    ensures { result ≡ length (numerals.prefix_until numerals.is_mark_byte bytes.now) }
+    ensures { result ≡ length (numerals.prefix_until numerals.is_numeral_exponent_mark bytes.now) }
 {
     for (i, &byte) in bytes.iter().enumerate() {
         if byte == b'E' || byte == b'e' {
@@ -101,7 +101,7 @@ fn mark_place(bytes: &[u8]) -> usize
 
 // The number of bytes after the point, or 0 if there is no point.
 fn places(bytes: &[u8]) -> usize
-    ensures is { result ≡ spec.decimal_places bytes.now }
+    ensures is { result ≡ spec.numeral_decimal_places bytes.now }
     ensures within { result ≤ length bytes.now }
     ensures fits { length bytes.now < 2 ^ 63 }
 {
@@ -117,7 +117,7 @@ fn places(bytes: &[u8]) -> usize
 // The number that all digits write without the zeros at their end, and the count of these zeros,
 // or `None` if the number is too large.
 fn significant(bytes: &[u8]) -> Option<(u128, usize)>
-    ensures { result ≡ spec.short_coefficient bytes.now }
+    ensures { result ≡ spec.short_numeral_coefficient bytes.now }
 {
     let mut number = 0;
     let mut zeros = 0;
@@ -136,7 +136,7 @@ fn significant(bytes: &[u8]) -> Option<(u128, usize)>
 fn append_digit(number: u128, zeros: usize, digit: u8) -> Option<u128>
     requires { digit < 10 }
     ensures { SomeIff result
-        (number * 10 ^ (zeros + 1) + digit ≤ most)
+        (number * 10 ^ (zeros + 1) + digit ≤ largest_fraction_part)
         (number * 10 ^ (zeros + 1) + digit) }
 {
     if number == 0 {
@@ -156,7 +156,8 @@ fn append_digit(number: u128, zeros: usize, digit: u8) -> Option<u128>
 
 // The exponent that the bytes from the mark on write, or `None` if it is too large.
 fn exponent(text: &[u8]) -> Option<i128>
-    ensures { SomeIff result (spec.exponent_size text.now ≤ spec.most_exponent) (spec.decimal_exponent text.now) }
+    ensures { SomeIff result (spec.numeral_exponent_size text.now ≤ spec.most_numeral_exponent)
+        (spec.numeral_exponent text.now) }
 {
     let size = exponent_size(text)?;
     if has_minus(text) {
@@ -168,7 +169,7 @@ fn exponent(text: &[u8]) -> Option<i128>
 
 // Whether a minus is among the bytes.
 fn has_minus(bytes: &[u8]) -> bool
-    ensures { result ≡ list_any numerals.is_minus_byte bytes.now }
+    ensures { result ≡ list_any numerals.is_numeral_minus bytes.now }
 {
     bytes.iter().any(|byte| *byte == b'-')
 }
@@ -176,8 +177,8 @@ fn has_minus(bytes: &[u8]) -> bool
 // The number that the digits among the bytes write, or `None` if it is too large.
 fn exponent_size(bytes: &[u8]) -> Option<u32>
     ensures { SomeIff result
-        (spec.exponent_size bytes.now ≤ spec.most_exponent)
-        (spec.exponent_size bytes.now) }
+        (spec.numeral_exponent_size bytes.now ≤ spec.most_numeral_exponent)
+        (spec.numeral_exponent_size bytes.now) }
 {
     let mut number = 0;
     for &byte in bytes {

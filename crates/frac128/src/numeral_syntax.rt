@@ -2,8 +2,9 @@
 
 ghost use Rattle.std.specs.Prelude.{◌≡◌, ◌<◌, ◌≤◌, ◌||◌, true, length, take};
 ghost use Rattle.std.specs.List.{list_all};
-ghost use Rattle.frac128.specs.Numerals.{is_digit, is_mark_byte, is_point_byte, numeral_len_of};
-ghost use Rattle.frac128.specs.Stages.{byte_kind, may_end, stage_after};
+ghost use Rattle.frac128.specs.Numerals.{is_numeral_digit, is_numeral_exponent_mark, is_numeral_point};
+ghost use Rattle.frac128.specs.Numerals.{longest_numeral_len};
+ghost use Rattle.frac128.specs.Stages.{numeral_byte_kind, numeral_may_end, numeral_stage_after};
 
 // The kind of a byte in a numeral.
 #[derive(Clone, Copy)]
@@ -29,7 +30,7 @@ enum Stage {
 
 /// Returns the length of the longest numeral at the front of `bytes`, or 0 if there is none.
 pub fn numeral_len(bytes: &[u8]) -> usize
-    ensures { result ≡ numeral_len_of bytes.now }
+    ensures { result ≡ longest_numeral_len bytes.now }
 {
     let digits = whole_len(bytes);
     if digits > 0 {
@@ -41,8 +42,8 @@ pub fn numeral_len(bytes: &[u8]) -> usize
 // The length of the longest numeral at the front of `bytes` if it is digits alone. 0 if there is
 // none, or if a point or a mark follows the digits.
 pub(crate) fn whole_len(bytes: &[u8]) -> usize
-    ensures len { 0 < result → result ≡ numeral_len_of bytes.now }
-    ensures digits { list_all is_digit (take result bytes.now) ≡ true }
+    ensures len { 0 < result → result ≡ longest_numeral_len bytes.now }
+    ensures digits { list_all is_numeral_digit (take result bytes.now) ≡ true }
     ensures within { result ≤ length bytes.now }
 {
     for (i, &byte) in bytes.iter().enumerate() {
@@ -55,14 +56,14 @@ pub(crate) fn whole_len(bytes: &[u8]) -> usize
 
 // Whether a numeral may continue with this byte after a run of digits.
 fn goes_on(byte: u8) -> bool
-    ensures { result ≡ (is_point_byte byte || is_mark_byte byte) }
+    ensures { result ≡ (is_numeral_point byte || is_numeral_exponent_mark byte) }
 {
     byte == b'.' || byte == b'E' || byte == b'e'
 }
 
 // The length of the longest numeral at the front of `bytes`, or 0 if there is none, stage by stage.
 pub(crate) fn staged_len(bytes: &[u8]) -> usize
-    ensures { result ≡ numeral_len_of bytes.now }
+    ensures { result ≡ longest_numeral_len bytes.now }
 {
     let mut stage = Stage::Start;
     let mut len = 0;
@@ -86,7 +87,7 @@ pub(crate) fn staged_len(bytes: &[u8]) -> usize
 impl Kind {
     // The kind of a byte.
     fn of(byte: u8) -> Kind
-        ensures { result ≡ byte_kind byte }
+        ensures { result ≡ numeral_byte_kind byte }
     {
         match byte {
             b'0'..=b'9' => Kind::Digit,
@@ -101,7 +102,7 @@ impl Kind {
 impl Stage {
     // The stage after one more byte, or `None` if no numeral continues with it.
     fn after(self, kind: Kind) -> Option<Stage>
-        ensures { result ≡ stage_after self kind }
+        ensures { result ≡ numeral_stage_after self kind }
     {
         match (self, kind) {
             (Stage::Start | Stage::Whole, Kind::Digit) => Some(Stage::Whole),
@@ -117,7 +118,7 @@ impl Stage {
 
     // Whether a numeral may end at the stage.
     fn may_end(self) -> bool
-        ensures { result ≡ may_end self }
+        ensures { result ≡ numeral_may_end self }
     {
         matches!(self, Stage::Whole | Stage::Fraction | Stage::Exponent)
     }

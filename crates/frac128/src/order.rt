@@ -2,8 +2,8 @@
 
 ghost use Rattle.std.specs.Prelude.{◌≡◌, ◌<◌, ◌*◌};
 ghost use Rattle.std.specs.Ordering.{nat_cmp};
-ghost use Rattle.frac128.specs.Fraction.{IsReduced};
-ghost use Rattle.frac128.specs.Order.{order_of};
+ghost use Rattle.frac128.specs.Fraction.{IsReducedFraction};
+ghost use Rattle.frac128.specs.Order.{fraction_order};
 
 use crate::fraction::Frac;
 use std::cmp::Ordering;
@@ -11,8 +11,8 @@ use std::cmp::Ordering;
 impl Frac {
     /// Compares the values of two fractions in lowest terms.
     pub fn cmp(&self, other: &Frac) -> Ordering
-        ensures order { result ≡ order_of self.now other.now }
-        ensures reduced { IsReduced self.now × IsReduced other.now }
+        ensures order { result ≡ fraction_order self.now other.now }
+        ensures reduced { IsReducedFraction self.now × IsReducedFraction other.now }
     {
         let (a, b) = (self.top(), self.bottom());
         let (c, d) = (other.top(), other.bottom());

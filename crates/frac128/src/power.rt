@@ -2,9 +2,9 @@
 
 ghost use Rattle.std.specs.Prelude.{◌≡◌, ◌<◌};
 ghost use Rattle.std.specs.Int.{IsGcd};
-ghost use Rattle.frac128.specs.Powers.{power, power_fraction};
+ghost use Rattle.frac128.specs.Powers.{fraction_power, power_fraction};
 ghost use Rattle.frac128.specs.Sign as spec;
-ghost use Rattle.frac128.specs.Steps.{fit_or_overflow};
+ghost use Rattle.frac128.specs.Steps.{fraction_or_overflow};
 
 use crate::fault::FracFault;
 use crate::fraction::Frac;
@@ -14,7 +14,7 @@ impl Frac {
     /// below 0, and else `Overflow` if the power does not fit. It multiplies one by one and stops
     /// at the first product of more than 128 bits, after at most 128 products whatever k is.
     pub fn pow(&self, k: i32) -> Result<Frac, FracFault>
-        ensures { result ≡ power self.now k }
+        ensures { result ≡ fraction_power self.now k }
     {
         let (top, bottom) = (self.top(), self.bottom());
         let times = k.unsigned_abs();
@@ -32,7 +32,8 @@ impl Frac {
         requires some { 0 < bottom }
         requires lowest { IsGcd top bottom 1 }
         ensures { result
-            ≡ fit_or_overflow (power_fraction (record { num = spec.number_with_sign negative top; den = bottom }) times) }
+            ≡ fraction_or_overflow (power_fraction (record { num = spec.signed_numerator negative top; den = bottom })
+            times) }
     {
         let negative = negative && times % 2 == 1;
         match (top.checked_pow(times), bottom.checked_pow(times)) {

@@ -2,7 +2,7 @@
 
 ghost use Rattle.std.specs.Prelude.{◌≡◌, ◌<◌, ◌*◌, ◌/◌, ◌^◌, IfSome, IfNone, SomeIff};
 ghost use Rattle.std.specs.Int.{IsGcd};
-ghost use Rattle.frac128.specs.Divisors.{IsLowest, IsWide};
+ghost use Rattle.frac128.specs.Divisors.{HasWideLowestTerms, IsLowestTerms};
 ghost use Rattle.frac128.specs.Steps.{fraction_product, fraction_quotient};
 
 use crate::divisors::{gcd, quotient};
@@ -45,8 +45,8 @@ fn lowest_product(a: u128, b: u128, c: u128, d: u128) -> Option<(u128, u128)>
     requires some_d { 0 < d }
     requires lowest_ab { IsGcd a b 1 }
     requires lowest_cd { IsGcd c d 1 }
-    ensures found { IfSome result (λ x. IsLowest (a * c) (b * d) x.0 x.1) }
-    ensures wide { IfNone result (IsWide (a * c) (b * d)) }
+    ensures found { IfSome result (λ x. IsLowestTerms (a * c) (b * d) x.0 x.1) }
+    ensures wide { IfNone result (HasWideLowestTerms (a * c) (b * d)) }
 {
     if b == 1 && d == 1 {
         return whole_product(a, c);
@@ -60,8 +60,8 @@ fn lowest_product(a: u128, b: u128, c: u128, d: u128) -> Option<(u128, u128)>
 
 // The product of two whole numbers, which needs no reduction.
 fn whole_product(a: u128, c: u128) -> Option<(u128, u128)>
-    ensures found { IfSome result (λ x. IsLowest (a * c) 1 x.0 x.1) }
-    ensures wide { IfNone result (IsWide (a * c) 1) }
+    ensures found { IfSome result (λ x. IsLowestTerms (a * c) 1 x.0 x.1) }
+    ensures wide { IfNone result (HasWideLowestTerms (a * c) 1) }
 {
     Some((a.checked_mul(c)?, 1))
 }

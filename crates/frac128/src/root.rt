@@ -1,8 +1,8 @@
 //! Exact roots.
 
 ghost use Rattle.std.specs.Prelude.{◌≡◌, ◌<◌, ◌≤◌, ◌^◌, ℕ, MatchOption};
-ghost use Rattle.frac128.specs.Fraction.{most};
-ghost use Rattle.frac128.specs.Roots.{IsRootAnswer, root_of};
+ghost use Rattle.frac128.specs.Fraction.{largest_fraction_part};
+ghost use Rattle.frac128.specs.Roots.{IsFractionRootAnswer, fraction_root};
 
 use crate::fault::FracFault;
 use crate::fraction::Frac;
@@ -12,8 +12,8 @@ impl Frac {
     /// `NoExactRoot` if there is no such fraction.
     pub fn root(&self, q: u32) -> Result<Frac, FracFault>
         requires { 0 < q }
-        ensures exact { IsRootAnswer self.now q result }
-        ensures computed { result ≡ root_of self.now q }
+        ensures exact { IsFractionRootAnswer self.now q result }
+        ensures computed { result ≡ fraction_root self.now q }
     {
         // The fraction is in lowest terms.
         self.den();
@@ -23,7 +23,7 @@ impl Frac {
     // The root, from the roots of the numerator and the denominator.
     fn root_by_parts(&self, q: u32) -> Result<Frac, FracFault>
         requires { 0 < q }
-        ensures { IsRootAnswer self.now q result }
+        ensures { IsFractionRootAnswer self.now q result }
     {
         let negative = self.is_negative();
         if negative && q % 2 == 0 {
@@ -40,7 +40,7 @@ impl Frac {
 // power is below n and one whose power is above n.
 fn whole_root(n: u128, q: u32) -> Option<u128>
     requires some { 0 < q }
-    requires fits { n ≤ most }
+    requires fits { n ≤ largest_fraction_part }
     ensures { MatchOption result ((m : ℕ) → m ^ q ≡ n → ⊥) (λ r. r ^ q ≡ n) }
 {
     if q == 1 || n < 2 {

@@ -2,9 +2,9 @@
 
 ghost use Rattle.std.specs.Prelude.{◌≡◌, ◌*◌, ◌+ℤ◌, ◌<ℤ◌, ◌≤◌, pos, unsigned_abs};
 ghost use Rattle.frac128.specs.Divisors as spec;
-ghost use Rattle.frac128.specs.Fraction.{most};
+ghost use Rattle.frac128.specs.Fraction.{largest_fraction_part};
 ghost use Rattle.frac128.specs.Sign as sign;
-ghost use Rattle.frac128.specs.Sums.{minus, plus, sum_over, within_bounds};
+ghost use Rattle.frac128.specs.Sums.{fraction_difference, fraction_sum, fraction_sum_over, numerator_or_overflow};
 
 use crate::divisors::{gcd, quotient};
 use crate::fault::FracFault;
@@ -15,7 +15,7 @@ impl Frac {
     /// Returns the sum, or `Overflow` if the least common multiple of the denominators, one of the
     /// numerators over it or their sum is out of range, even if the reduced sum would fit.
     pub fn add(&self, other: &Frac) -> Result<Frac, FracFault>
-        ensures { result ≡ plus self.now other.now }
+        ensures { result ≡ fraction_sum self.now other.now }
     {
         let (a, b) = (self.top(), self.bottom());
         let (c, d) = (other.top(), other.bottom());
@@ -30,7 +30,7 @@ impl Frac {
     /// Returns the difference, or `Overflow` if the least common multiple of the denominators, one
     /// of the numerators over it or their difference is out of range.
     pub fn sub(&self, other: &Frac) -> Result<Frac, FracFault>
-        ensures { result ≡ minus self.now other.now }
+        ensures { result ≡ fraction_difference self.now other.now }
     {
         self.add(&other.negate())
     }
@@ -39,12 +39,12 @@ impl Frac {
     // denominator are shared with the smaller number `shared` too.
     fn sum_over(multiple: i128, left: i128, right: i128, shared: u128) -> Result<Frac, FracFault>
         requires some { pos 0 <ℤ multiple }
-        requires multiple { unsigned_abs multiple ≤ most }
-        requires left { unsigned_abs left ≤ most }
-        requires right { unsigned_abs right ≤ most }
+        requires multiple { unsigned_abs multiple ≤ largest_fraction_part }
+        requires left { unsigned_abs left ≤ largest_fraction_part }
+        requires right { unsigned_abs right ≤ largest_fraction_part }
         requires shared { spec.gcd (unsigned_abs (left +ℤ right)) shared
             ≡ spec.gcd (unsigned_abs (left +ℤ right)) (unsigned_abs multiple) }
-        ensures { result ≡ sum_over (unsigned_abs multiple) (left +ℤ right) }
+        ensures { result ≡ fraction_sum_over (unsigned_abs multiple) (left +ℤ right) }
     {
         match left.checked_add(right) {
             Some(sum) if sum != i128::MIN => {
@@ -58,7 +58,7 @@ impl Frac {
 
 // The product with this sign, or `Overflow` if it is out of range.
 fn product(negative: bool, a: u128, b: u128) -> Result<i128, FracFault>
-    ensures { result ≡ within_bounds (sign.number_with_sign negative (a * b)) }
+    ensures { result ≡ numerator_or_overflow (sign.signed_numerator negative (a * b)) }
 {
     match a.checked_mul(b) {
         Some(size) if size <= MOST => Ok(with_sign(negative, size)),

@@ -6,10 +6,10 @@ use Rattle.std.proofs.lemmas.List.{get_or-take, length-take}
 use Rattle.std.proofs.lemmas.Option.{same_Some, unwrap_or-slice_get}
 use Rattle.std.specs.List.{SwappedAt}
 use Rattle.std.specs.Option.{unwrap_or}
-use Rattle.gap_list.specs.Fillings.{AreFilled, AreMoved}
-use Rattle.gap_list.specs.Gaps.{AreGaps, AreIncreasing, items_without, slot_at}
+use Rattle.gap_list.specs.Fillings.{AreSlotItemsMoved, AreSlotsFilled}
+use Rattle.gap_list.specs.Gaps.{AreGaps, AreGapsIncreasing, items_without_gaps, slot_at}
 use Rattle.gap_list.proofs.GapSearch.{slot_before_all}
-use Rattle.gap_list.proofs.SlotItems.{gap_count, item_in_slot, length-without}
+use Rattle.gap_list.proofs.SlotItems.{gap_count, item_in_slot, length-items_without_gaps}
 
 -- the slot of an item is its place and at most the number of gaps
 pub slot_most : (gaps : List ℕ) (place : ℕ) → slot_at gaps place ≤ place + length gaps
@@ -41,22 +41,22 @@ slots_increase (gap ∷ gaps) place other h =
     less = grind (arith, nat_tests, h)
 
 -- gaps within a vector increase
-pub gaps_increase : (low high : ℕ) (gaps : List ℕ) → AreGaps low high gaps → AreIncreasing low gaps
+pub gaps_increase : (low high : ℕ) (gaps : List ℕ) → AreGaps low high gaps → AreGapsIncreasing low gaps
 gaps_increase low high [] h = tt
 gaps_increase low high (gap ∷ gaps) h = (h.0, gaps_increase (gap + 1) high gaps h.1)
 
 module _ {A : Type 0} where
   -- the item at a place, by its slot
   item_by_slot : (gaps : List ℕ) (slots : List A) (k : ℕ) (d : A)
-      → get_or slots (slot_at gaps k) d ≡ get_or (items_without gaps slots) k d
+      → get_or slots (slot_at gaps k) d ≡ get_or (items_without_gaps gaps slots) k d
   item_by_slot gaps slots k d =
       sym (unwrap_or-slice_get slots (slot_at gaps k) d)
       ∙ ap (λ o. unwrap_or o d) (sym (item_in_slot gaps slots k))
-      ∙ unwrap_or-slice_get (items_without gaps slots) k d
+      ∙ unwrap_or-slice_get (items_without_gaps gaps slots) k d
 
   -- the items before the first gap are in their slots
-  pub fill_start : (low gap : ℕ) (gaps : List ℕ) (slots : List A) → AreIncreasing low (gap ∷ gaps)
-      → AreFilled (gap ∷ gaps) (items_without (gap ∷ gaps) slots) slots gap
+  pub fill_start : (low gap : ℕ) (gaps : List ℕ) (slots : List A) → AreGapsIncreasing low (gap ∷ gaps)
+      → AreSlotsFilled (gap ∷ gaps) (items_without_gaps (gap ∷ gaps) slots) slots gap
   fill_start low gap gaps slots h = record {
     filled = λ k d less.
         ap (λ s. get_or slots s d) (sym (slot_before_all gap k (gap ∷ gaps) (omega arith, h.1) less))
@@ -66,7 +66,7 @@ module _ {A : Type 0} where
 
   -- one item is moved
   pub fill_one : (gaps : List ℕ) (old new : List A) (place slot : ℕ) → slot ≡ slot_at gaps place
-      → SwappedAt old new place slot → AreMoved gaps place (place + 1) old new
+      → SwappedAt old new place slot → AreSlotItemsMoved gaps place (place + 1) old new
   fill_one gaps old new place slot e swapped items inside before = record {
     filled = λ k d less. by k d less (nat_lt k place) refl;
     others = λ k d from within.
@@ -99,7 +99,7 @@ module _ {A : Type 0} where
       λ i. first i ∷ rest i
 
   -- when all items are moved, the first slots have the items
-  pub fill_end : (gaps : List ℕ) (items slots : List A) (count : ℕ) → AreFilled gaps items slots count
+  pub fill_end : (gaps : List ℕ) (items slots : List A) (count : ℕ) → AreSlotsFilled gaps items slots count
       → length items ≡ count → count ≤ length slots → take count slots ≡ items
   fill_end gaps items slots count filled e le =
       let len : length (take count slots) ≡ count = length-take count slots ∙ omega (arith, le) in
@@ -108,36 +108,37 @@ module _ {A : Type 0} where
       ∙ filled.filled k d (omega (arith, less, len)))
 
   -- the first slots have all items, if the gaps start at the first place that is moved
-  pub moved_all : (low high gap : ℕ) (gaps : List ℕ) (old new : List A) (len : ℕ) → AreIncreasing low (gap ∷ gaps)
-      → AreMoved (gap ∷ gaps) gap len old new → len ≡ length (items_without (gap ∷ gaps) old) → len ≤ length new
-      → take len new ≡ items_without (gap ∷ gaps) old
+  pub moved_all : (low high gap : ℕ) (gaps : List ℕ) (old new : List A) (len : ℕ) → AreGapsIncreasing low (gap ∷ gaps)
+      → AreSlotItemsMoved (gap ∷ gaps) gap len old new → len ≡ length (items_without_gaps (gap ∷ gaps) old)
+      → len ≤ length new
+      → take len new ≡ items_without_gaps (gap ∷ gaps) old
   moved_all low high gap gaps old new len h moved e le =
-      fill_end (gap ∷ gaps) (items_without (gap ∷ gaps) old) new len
-      (moved (items_without (gap ∷ gaps) old) (omega (arith, e)) (fill_start low gap gaps old h)) (sym e) le
+      fill_end (gap ∷ gaps) (items_without_gaps (gap ∷ gaps) old) new len
+      (moved (items_without_gaps (gap ∷ gaps) old) (omega (arith, e)) (fill_start low gap gaps old h)) (sym e) le
 
   -- the same, given the first gap
   pub filled_all : (gaps : List ℕ) (old new : List A) (first len : ℕ) → AreGaps 0 (length old) gaps
-      → Some first ≡ slice_get gaps 0 → AreMoved gaps first len old new → len + length gaps ≡ length old
-      → length new ≡ length old → take len new ≡ items_without gaps old
+      → Some first ≡ slice_get gaps 0 → AreSlotItemsMoved gaps first len old new → len + length gaps ≡ length old
+      → length new ≡ length old → take len new ≡ items_without_gaps gaps old
   filled_all [] old new first len h e moved count same = cc
   filled_all (gap ∷ gaps) old new first len h e moved count same =
       let is : first ≡ gap = same_Some first gap e in
-      let long : length (items_without (gap ∷ gaps) old) + length (gap ∷ gaps) ≡ length old =
-      length-without 0 (gap ∷ gaps) old h in
+      let long : length (items_without_gaps (gap ∷ gaps) old) + length (gap ∷ gaps) ≡ length old =
+      length-items_without_gaps 0 (gap ∷ gaps) old h in
       moved_all 0 (length old) gap gaps old new len (gaps_increase 0 (length old) (gap ∷ gaps) h)
-      (subst (λ from. AreMoved (gap ∷ gaps) from len old new) is moved) (omega (arith, count, long))
+      (subst (λ from. AreSlotItemsMoved (gap ∷ gaps) from len old new) is moved) (omega (arith, count, long))
       (omega (arith, count, same))
 
 -- no gap is the first one
-pub none_first : (gaps : List ℕ) → None ≡ slice_get gaps 0 → gaps ≡ []
-none_first [] e = refl
-none_first (gap ∷ gaps) e = cc
+pub no_first_gap : (gaps : List ℕ) → None ≡ slice_get gaps 0 → gaps ≡ []
+no_first_gap [] e = refl
+no_first_gap (gap ∷ gaps) e = cc
 
 -- the first gap is before the items that are moved
-pub first_within : (gaps : List ℕ) (first high : ℕ) → AreGaps 0 high gaps → Some first ≡ slice_get gaps 0
+pub first_gap_is_within : (gaps : List ℕ) (first high : ℕ) → AreGaps 0 high gaps → Some first ≡ slice_get gaps 0
     → first + length gaps ≤ high
-first_within [] first high h e = cc
-first_within (gap ∷ gaps) first high h e =
+first_gap_is_within [] first high h e = cc
+first_gap_is_within (gap ∷ gaps) first high h e =
     let is : first ≡ gap = same_Some first gap e in
     let bound : gap + 1 + length gaps ≤ high = gap_count (gap + 1) high gaps h.1 in
     omega (arith, is, bound)

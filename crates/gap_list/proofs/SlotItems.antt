@@ -4,8 +4,7 @@ use Rattle.std.proofs.Common.{nat_lt, slice_get, refl, sym, ap, ◌∙◌, arith
 use Rattle.std.proofs.lemmas.Bool.Decides.{nat_tests}
 use Rattle.std.proofs.lemmas.List.Edits.{length-remove}
 use Rattle.std.specs.List.{remove}
-use Rattle.gap_list.specs.Gaps.{AreGaps, items_without, place_without, slot_at, with_gap}
-use Rattle.gap_list.specs.Gaps.{without_gap}
+use Rattle.gap_list.specs.Gaps.{AreGaps, items_without_gaps, place_without_gaps, slot_at, with_gap, without_gap}
 
 module _ {A : Type 0} where
   -- nothing is removed from the empty list
@@ -47,10 +46,10 @@ module _ {A : Type 0} where
 
   -- an item is found in its slot
   pub item_in_slot : (gaps : List ℕ) (slots : List A) (place : ℕ)
-      → slice_get (items_without gaps slots) place ≡ slice_get slots (slot_at gaps place)
+      → slice_get (items_without_gaps gaps slots) place ≡ slice_get slots (slot_at gaps place)
   item_in_slot [] slots place = refl
   item_in_slot (gap ∷ gaps) slots place =
-      get-remove (items_without gaps slots) gap place
+      get-remove (items_without_gaps gaps slots) gap place
       ∙ item_in_slot gaps slots (cond (nat_lt place gap) place (place + 1))
 
   -- two items may be removed in either order
@@ -65,23 +64,24 @@ module _ {A : Type 0} where
 
   -- one more gap removes one item
   pub item_removed : (gaps : List ℕ) (slots : List A) (place : ℕ)
-      → items_without (with_gap place gaps) slots ≡ remove (items_without gaps slots) place
+      → items_without_gaps (with_gap place gaps) slots ≡ remove (items_without_gaps gaps slots) place
   item_removed [] slots place = refl
   item_removed (gap ∷ gaps) slots place = by (item_removed gaps slots (place + 1)) (nat_lt place gap) refl
     where
-      by : items_without (with_gap (place + 1) gaps) slots ≡ remove (items_without gaps slots) (place + 1) → (b : Bool)
+      by : items_without_gaps (with_gap (place + 1) gaps) slots ≡ remove (items_without_gaps gaps slots) (place + 1)
+          → (b : Bool)
           → nat_lt place gap ≡ b
-          → items_without (cond b (place ∷ gap ∷ gaps) (gap ∷ with_gap (place + 1) gaps)) slots
-          ≡ remove (remove (items_without gaps slots) gap) place
+          → items_without_gaps (cond b (place ∷ gap ∷ gaps) (gap ∷ with_gap (place + 1) gaps)) slots
+          ≡ remove (remove (items_without_gaps gaps slots) gap) place
       by rest true e = refl
       by rest false e =
           let more : gap ≤ place = grind (arith, nat_tests, e) in
           ap (λ (l : List A). remove l gap) rest
-          ∙ ap (λ n. remove (remove (items_without gaps slots) n) gap) (add-one place)
-          ∙ remove-remove (items_without gaps slots) gap place more
+          ∙ ap (λ n. remove (remove (items_without_gaps gaps slots) n) gap) (add-one place)
+          ∙ remove-remove (items_without_gaps gaps slots) gap place more
 
 -- the slot of the item at a place leads back to the place
-pub place_of_slot : (gaps : List ℕ) (place : ℕ) → place_without gaps (slot_at gaps place) ≡ place
+pub place_of_slot : (gaps : List ℕ) (place : ℕ) → place_without_gaps gaps (slot_at gaps place) ≡ place
 place_of_slot [] place = refl
 place_of_slot (gap ∷ gaps) place =
     ap (without_gap gap) (place_of_slot gaps (cond (nat_lt place gap) place (place + 1))) ∙ back
@@ -90,22 +90,22 @@ place_of_slot (gap ∷ gaps) place =
     back = grind (arith, nat_tests)
 
 -- one more gap moves the places after it
-pub place_moved : (gaps : List ℕ) (place slot : ℕ)
-    → place_without (with_gap place gaps) slot ≡ without_gap place (place_without gaps slot)
-place_moved [] place slot = refl
-place_moved (gap ∷ gaps) place slot = by (place_moved gaps (place + 1) slot) (nat_lt place gap) refl
+pub place_moved_by_gap : (gaps : List ℕ) (place slot : ℕ)
+    → place_without_gaps (with_gap place gaps) slot ≡ without_gap place (place_without_gaps gaps slot)
+place_moved_by_gap [] place slot = refl
+place_moved_by_gap (gap ∷ gaps) place slot = by (place_moved_by_gap gaps (place + 1) slot) (nat_lt place gap) refl
   where
     swap : (y : ℕ) → gap ≤ place → without_gap gap (without_gap (place + 1) y) ≡ without_gap place (without_gap gap y)
     swap y h = grind (arith, nat_tests, h)
 
-    by : place_without (with_gap (place + 1) gaps) slot ≡ without_gap (place + 1) (place_without gaps slot)
+    by : place_without_gaps (with_gap (place + 1) gaps) slot ≡ without_gap (place + 1) (place_without_gaps gaps slot)
         → (b : Bool) → nat_lt place gap ≡ b
-        → place_without (cond b (place ∷ gap ∷ gaps) (gap ∷ with_gap (place + 1) gaps)) slot
-        ≡ without_gap place (without_gap gap (place_without gaps slot))
+        → place_without_gaps (cond b (place ∷ gap ∷ gaps) (gap ∷ with_gap (place + 1) gaps)) slot
+        ≡ without_gap place (without_gap gap (place_without_gaps gaps slot))
     by rest true e = refl
     by rest false e =
         let more : gap ≤ place = grind (arith, nat_tests, e) in
-        ap (without_gap gap) rest ∙ swap (place_without gaps slot) more
+        ap (without_gap gap) rest ∙ swap (place_without_gaps gaps slot) more
 
 -- there are at most as many gaps as slots
 pub gap_count : (low high : ℕ) (gaps : List ℕ) → AreGaps low high gaps → low + length gaps ≤ high
@@ -115,16 +115,17 @@ gap_count low high (gap ∷ gaps) h =
     omega (arith, h.0, rest)
 
 -- the number of items and gaps is that of the slots
-pub length-without : {A : Type 0} → (low : ℕ) (gaps : List ℕ) (slots : List A) → AreGaps low (length slots) gaps
-    → length (items_without gaps slots) + length gaps ≡ length slots
-length-without low [] slots h = omega arith
-length-without low (gap ∷ gaps) slots h =
-    let rest : length (items_without gaps slots) + length gaps ≡ length slots =
-    length-without (gap + 1) gaps slots h.1 in
+pub length-items_without_gaps : {A : Type 0} → (low : ℕ) (gaps : List ℕ) (slots : List A)
+    → AreGaps low (length slots) gaps
+    → length (items_without_gaps gaps slots) + length gaps ≡ length slots
+length-items_without_gaps low [] slots h = omega arith
+length-items_without_gaps low (gap ∷ gaps) slots h =
+    let rest : length (items_without_gaps gaps slots) + length gaps ≡ length slots =
+    length-items_without_gaps (gap + 1) gaps slots h.1 in
     let bound : gap + 1 + length gaps ≤ length slots = gap_count (gap + 1) (length slots) gaps h.1 in
-    let inside : gap < length (items_without gaps slots) = omega (arith, rest, bound) in
-    let less : length (remove (items_without gaps slots) gap) + 1 ≡ length (items_without gaps slots) =
-    length-remove (items_without gaps slots) gap inside in
+    let inside : gap < length (items_without_gaps gaps slots) = omega (arith, rest, bound) in
+    let less : length (remove (items_without_gaps gaps slots) gap) + 1 ≡ length (items_without_gaps gaps slots) =
+    length-remove (items_without_gaps gaps slots) gap inside in
     omega (arith, rest, less)
 
 -- the gaps are within a longer vector too
@@ -157,11 +158,11 @@ module _ {A : Type 0} where
 
   -- an item is appended to a list with gaps
   pub items-push : (low : ℕ) (gaps : List ℕ) (slots : List A) (x : A) → AreGaps low (length slots) gaps
-      → items_without gaps (slots ++ x ∷ []) ≡ items_without gaps slots ++ x ∷ []
+      → items_without_gaps gaps (slots ++ x ∷ []) ≡ items_without_gaps gaps slots ++ x ∷ []
   items-push low [] slots x h = refl
   items-push low (gap ∷ gaps) slots x h =
-      let rest : length (items_without gaps slots) + length gaps ≡ length slots =
-      length-without (gap + 1) gaps slots h.1 in
+      let rest : length (items_without_gaps gaps slots) + length gaps ≡ length slots =
+      length-items_without_gaps (gap + 1) gaps slots h.1 in
       let bound : gap + 1 + length gaps ≤ length slots = gap_count (gap + 1) (length slots) gaps h.1 in
       ap (λ (l : List A). remove l gap) (items-push (gap + 1) gaps slots x h.1)
-      ∙ remove-push (items_without gaps slots) gap x (omega (arith, rest, bound))
+      ∙ remove-push (items_without_gaps gaps slots) gap x (omega (arith, rest, bound))

@@ -8,14 +8,14 @@ abbrev pub without_gap : (gap place : ℕ) → ℕ
 without_gap gap place = if nat_lt gap place then place - 1 else place
 
 -- the items of a vector that are not in gaps: the last gap is removed first, so that the others keep their slots
-abbrev pub items_without : {A : Type 0} → (gaps : List ℕ) (slots : List A) → List A
-items_without [] slots = slots
-items_without (gap ∷ gaps) slots = remove (items_without gaps slots) gap
+abbrev pub items_without_gaps : {A : Type 0} → (gaps : List ℕ) (slots : List A) → List A
+items_without_gaps [] slots = slots
+items_without_gaps (gap ∷ gaps) slots = remove (items_without_gaps gaps slots) gap
 
 -- the place of the item in a slot
-abbrev pub place_without : (gaps : List ℕ) (slot : ℕ) → ℕ
-place_without [] slot = slot
-place_without (gap ∷ gaps) slot = without_gap gap (place_without gaps slot)
+abbrev pub place_without_gaps : (gaps : List ℕ) (slot : ℕ) → ℕ
+place_without_gaps [] slot = slot
+place_without_gaps (gap ∷ gaps) slot = without_gap gap (place_without_gaps gaps slot)
 
 -- the slot of the item at a place
 abbrev pub slot_at : (gaps : List ℕ) (place : ℕ) → ℕ
@@ -33,9 +33,9 @@ gaps_before place [] = []
 gaps_before place (gap ∷ gaps) = if nat_lt place gap then [] else gap ∷ gaps_before (place + 1) gaps
 
 -- the gaps increase, from `low` on
-abbrev pub AreIncreasing : (low : ℕ) (gaps : List ℕ) → Type 0
-AreIncreasing low [] = ⊤
-AreIncreasing low (gap ∷ gaps) = (low ≤ gap) × AreIncreasing (gap + 1) gaps
+abbrev pub AreGapsIncreasing : (low : ℕ) (gaps : List ℕ) → Type 0
+AreGapsIncreasing low [] = ⊤
+AreGapsIncreasing low (gap ∷ gaps) = (low ≤ gap) × AreGapsIncreasing (gap + 1) gaps
 
 -- the gaps increase, from `low` on, and are below `high`
 abbrev pub AreGaps : (low high : ℕ) (gaps : List ℕ) → Type 0

@@ -1,8 +1,8 @@
 //! Moving items into the gaps before them.
 
 ghost use Rattle.std.specs.Prelude.{◌≡◌, ◌≤◌, ◌<◌, ◌+◌, [], length, vec_capacity};
-ghost use Rattle.gap_list.specs.Fillings.{AreMoved};
-ghost use Rattle.gap_list.specs.Gaps.{AreGaps, items_without};
+ghost use Rattle.gap_list.specs.Fillings.{AreSlotItemsMoved};
+ghost use Rattle.gap_list.specs.Gaps.{AreGaps, items_without_gaps};
 
 use crate::gaps::Gaps;
 
@@ -10,7 +10,7 @@ use crate::gaps::Gaps;
 /// memory.
 pub(crate) fn fill_gaps<T: Drop>(slots: &mut Vec<T>, gaps: &mut Gaps)
     requires { AreGaps 0 (length slots.old.items) gaps.old }
-    ensures items { slots.new.items ≡ items_without gaps.old slots.old.items }
+    ensures items { slots.new.items ≡ items_without_gaps gaps.old slots.old.items }
     ensures none { gaps.new ≡ [] }
     ensures capacity { vec_capacity slots.new ≡ vec_capacity slots.old }
 {
@@ -27,7 +27,7 @@ pub(crate) fn fill_gaps<T: Drop>(slots: &mut Vec<T>, gaps: &mut Gaps)
 pub(crate) fn fill_many_gaps<T: Drop>(slots: &mut Vec<T>, gaps: &mut Gaps)
     requires { AreGaps 0 (length slots.old.items) gaps.old }
     ensures gaps { AreGaps 0 (length slots.new.items) gaps.new }
-    ensures items { items_without gaps.new slots.new.items ≡ items_without gaps.old slots.old.items }
+    ensures items { items_without_gaps gaps.new slots.new.items ≡ items_without_gaps gaps.old slots.old.items }
 {
     if gaps.are_many(slots.len()) {
         fill_gaps(slots, gaps);
@@ -40,7 +40,7 @@ fn move_items<T: Drop>(slots: &mut Vec<T>, gaps: &Gaps, first: usize, len: usize
     requires slots { len + length gaps.now ≤ length slots.old.items }
     ensures slots { length slots.new.items ≡ length slots.old.items }
     ensures capacity { vec_capacity slots.new ≡ vec_capacity slots.old }
-    ensures moved { AreMoved gaps.now first len slots.old.items slots.new.items }
+    ensures moved { AreSlotItemsMoved gaps.now first len slots.old.items slots.new.items }
 {
     for place in first..len {
         move_item(slots, gaps, place);
@@ -52,7 +52,7 @@ fn move_item<T: Drop>(slots: &mut Vec<T>, gaps: &Gaps, place: usize)
     requires { place + length gaps.now < length slots.old.items }
     ensures slots { length slots.new.items ≡ length slots.old.items }
     ensures capacity { vec_capacity slots.new ≡ vec_capacity slots.old }
-    ensures moved { AreMoved gaps.now place (place + 1) slots.old.items slots.new.items }
+    ensures moved { AreSlotItemsMoved gaps.now place (place + 1) slots.old.items slots.new.items }
 {
     let Some(slot) = gaps.slot_of(place) else {
         return;

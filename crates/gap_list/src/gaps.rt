@@ -2,8 +2,8 @@
 
 ghost use Rattle.std.specs.Prelude.{◌≡◌, ◌≤◌, ◌<◌, ◌+◌, ◌^◌, [], length, drop, OnOk, OnErr, IfNone, IfSome, slice_get};
 ghost use Rattle.gap_list.specs.Gaps as spec;
-ghost use Rattle.gap_list.specs.Gaps.{AreIncreasing};
-ghost use Rattle.gap_list.specs.Searches.{AreBefore};
+ghost use Rattle.gap_list.specs.Gaps.{AreGapsIncreasing};
+ghost use Rattle.gap_list.specs.Searches.{AreGapsBefore};
 
 use std::alloc::{AllocError, Global};
 use std::marker::Model;
@@ -17,13 +17,13 @@ pub struct Gaps {
 
 impl Model for Gaps {
     ghost use Rattle.std.specs.Prelude.{ℕ, List};
-    ghost use Rattle.gap_list.specs.Gaps.{AreIncreasing};
+    ghost use Rattle.gap_list.specs.Gaps.{AreGapsIncreasing};
 
     ghost Value = { List ℕ };
 
     ghost view = { λ g. g.slots.items };
 
-    ghost invariant = { λ g. AreIncreasing 0 g.slots.items };
+    ghost invariant = { λ g. AreGapsIncreasing 0 g.slots.items };
 }
 
 impl Gaps {
@@ -73,7 +73,7 @@ impl Gaps {
 
     /// Returns the place of the item in `slot`.
     pub fn place_of(&self, slot: usize) -> usize
-        ensures { result ≡ spec.place_without self.now slot }
+        ensures { result ≡ spec.place_without_gaps self.now slot }
     {
         slot - self.count_below(slot)
     }
@@ -109,8 +109,8 @@ impl Gaps {
     // Returns the number of gaps before the item at `place`. The cost grows with the logarithm of the number of gaps.
     fn count_before(&self, place: usize) -> usize
         ensures within { result ≤ length self.now }
-        ensures before { AreBefore place result self.now }
-        ensures behind { AreIncreasing (place + result + 1) (drop result self.now) }
+        ensures before { AreGapsBefore place result self.now }
+        ensures behind { AreGapsIncreasing (place + result + 1) (drop result self.now) }
     {
         let gaps = self.slots.as_slice();
         let mut low = 0;
@@ -128,7 +128,7 @@ impl Gaps {
 
     // Returns the number of gaps before `slot`. The cost grows with the logarithm of the number of gaps.
     fn count_below(&self, slot: usize) -> usize
-        ensures { spec.place_without self.now slot + result ≡ slot }
+        ensures { spec.place_without_gaps self.now slot + result ≡ slot }
     {
         let gaps = self.slots.as_slice();
         let mut low = 0;

@@ -21,14 +21,14 @@ pub struct GapList<T> {
 impl<T> Model for GapList<T> {
     ghost use Rattle.std.specs.Prelude.{◌-◌, vec_capacity, vec_len, length};
     ghost use Rattle.gap_list.specs.GapItems.{GapItems, gap_items_code};
-    ghost use Rattle.gap_list.specs.Gaps.{AreGaps, items_without};
+    ghost use Rattle.gap_list.specs.Gaps.{AreGaps, items_without_gaps};
 
     ghost Value = { GapItems T };
 
     ghost coded = { gap_items_code T.code };
 
     ghost view = { λ l. record {
-      listed = items_without l.gaps l.slots.items;
+      listed = items_without_gaps l.gaps l.slots.items;
       spare = vec_capacity l.slots - vec_len l.slots;
     } };
 

@@ -3,7 +3,7 @@
 ghost use Rattle.std.specs.Prelude.{◌≡◌, ◌≤◌, ◌<◌, ◌+◌, ◌++◌, ◌∷◌, [], length, slice_get, vec_capacity, vec_len};
 ghost use Rattle.std.specs.List.{remove};
 ghost use Rattle.std.specs.Option.{option_copied};
-ghost use Rattle.gap_list.specs.Gaps.{AreGaps, items_without};
+ghost use Rattle.gap_list.specs.Gaps.{AreGaps, items_without_gaps};
 
 use crate::filling::fill_gaps;
 use crate::gaps::Gaps;
@@ -26,9 +26,10 @@ pub(crate) fn put_last<T: Drop>(slots: &mut Vec<T>, item: T)
 /// Removes the item at `place`. Its slot becomes a gap; without memory for one more gap, all gaps are filled.
 pub(crate) fn remove_item<T: Drop>(slots: &mut Vec<T>, gaps: &mut Gaps, place: usize)
     requires gaps { AreGaps 0 (length slots.old.items) gaps.old }
-    requires place { place < length (items_without gaps.old slots.old.items) }
+    requires place { place < length (items_without_gaps gaps.old slots.old.items) }
     ensures gaps { AreGaps 0 (length slots.new.items) gaps.new }
-    ensures items { items_without gaps.new slots.new.items ≡ remove (items_without gaps.old slots.old.items) place }
+    ensures items { items_without_gaps gaps.new slots.new.items
+        ≡ remove (items_without_gaps gaps.old slots.old.items) place }
 {
     match gaps.add(place) {
         Ok(()) => {}

@@ -1,7 +1,7 @@
 //! Names of included files.
 
 ghost use Rattle.std.specs.Prelude.{◌≡◌, IfOk};
-ghost use Rattle.deck_lines.specs.Includes.{folder_of, included_name};
+ghost use Rattle.deck_lines.specs.Includes.{include_folder_of, included_name};
 
 use std::alloc::{AllocError, Global};
 use units_io::Text;
@@ -20,7 +20,7 @@ pub(crate) fn name_beside(alloc: Global, includer: &[u8], name: &[u8]) -> Result
 
 // Returns the name up to and including its last `/`.
 fn folder(name: &[u8]) -> &[u8]
-    ensures { result.now ≡ folder_of name.now }
+    ensures { result.now ≡ include_folder_of name.now }
 {
     let mut rest = name;
     while let Some((b, start)) = rest.split_last() {

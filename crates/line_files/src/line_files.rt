@@ -23,9 +23,9 @@ impl Model for LineFiles {
 
     ghost Value = { List (List ℕ) };
 
-    ghost view = { λ files. spec.names_at files.names files.numbers.items };
+    ghost view = { λ files. spec.line_file_names_at files.names files.numbers.items };
 
-    ghost invariant = { λ files. spec.AreBelow (length files.names) files.numbers.items };
+    ghost invariant = { λ files. spec.AreLineFilesBelow (length files.names) files.numbers.items };
 }
 
 impl LineFiles {
@@ -87,7 +87,7 @@ impl LineFiles {
 
 // Returns the name at a place, or the empty name if there is none.
 fn name_at(names: &[Text], place: usize) -> &[u8]
-    ensures { result.now ≡ spec.name_at names.now place }
+    ensures { result.now ≡ spec.line_file_name_at names.now place }
 {
     match names.get(place) {
         Some(name) => name.as_bytes(),
@@ -98,7 +98,7 @@ fn name_at(names: &[Text], place: usize) -> &[u8]
 // Reports whether the name at a place is `name`.
 fn has_name(names: &[Text], place: usize, name: &[u8]) -> bool
     ensures within { result ≡ true → place < length names.now }
-    ensures name { result ≡ true → spec.name_at names.now place ≡ name.now }
+    ensures name { result ≡ true → spec.line_file_name_at names.now place ≡ name.now }
 {
     place < names.len() && name_at(names, place) == name
 }

@@ -1,7 +1,7 @@
 //! Compares the lines of files with those of a deck as they are read.
 
 ghost use Rattle.std.specs.Prelude.{◌≡◌, ◌++◌, ◌∷◌, [], OnOk};
-ghost use Rattle.deck_lines.specs.Blocks.{end_text};
+ghost use Rattle.deck_lines.specs.Blocks.{block_end_text};
 ghost use Rattle.deck_lines.specs.Blocks as blocks;
 
 use crate::fault::LineFilesFault;
@@ -56,7 +56,7 @@ fn is_line(line: Option<&Line>, number: u32, text: &[u8]) -> bool {
 
 /// Returns the text of the end line for an ending.
 pub(crate) fn end_line_text(ending: Ending) -> &'static [u8]
-    ensures { result.now ≡ end_text ending }
+    ensures { result.now ≡ block_end_text ending }
 {
     match ending {
         Ending::ByLocale => b"!endlocale".as_slice(),
@@ -67,7 +67,7 @@ pub(crate) fn end_line_text(ending: Ending) -> &'static [u8]
 
 /// Reports whether two endings are equal.
 pub(crate) fn same_ending(ending: Ending, other: Ending) -> bool
-    ensures { result ≡ blocks.same_ending ending other }
+    ensures { result ≡ blocks.same_block_ending ending other }
 {
     matches!(
         (ending, other),

@@ -3,7 +3,7 @@
 ghost use Rattle.std.specs.Prelude.{◌≡◌, ◌++◌, ◌≤◌, IfOk, OnOk, Some, length, map, reverse};
 ghost use Rattle.units_io.specs.FileMap.{FileMap, longest_file};
 ghost use Rattle.deck_lines.specs.Excerpts as excerpts;
-ghost use Rattle.deck_lines.specs.Readings.{reading_of};
+ghost use Rattle.deck_lines.specs.Readings.{store_line_reading_of};
 ghost use Rattle.line_files.specs.FileLines as spec;
 
 use crate::beside::name_beside;
@@ -31,7 +31,7 @@ pub fn find_line_files<F: Files>(
 ) -> Result<LineFiles, LineFilesFault>
     requires { length bytes.now ≤ longest_file }
     ensures found { (m : FileMap) → F.files files.old ≡ Some m
-        → IfOk result (λ found. found ≡ spec.file_names (spec.file_lines m name.now bytes.now)) }
+        → IfOk result (λ found. found ≡ spec.line_file_names (spec.file_lines m name.now bytes.now)) }
     ensures all { IfOk result (λ found. length found ≡ length lines.now) }
     ensures kept { F.files files.new ≡ F.files files.old }
 {
@@ -60,7 +60,8 @@ impl Pass<'_> {
     ) -> Result<(), LineFilesFault>
         requires { length bytes.now ≤ longest_file }
         ensures found { (m : FileMap) → F.files files.old ≡ Some m → OnOk result
-            (self.new.found ≡ self.old.found ++ spec.file_names (spec.lines_above m depth name.now bytes.now)) }
+            (self.new.found ≡ self.old.found
+            ++ spec.line_file_names (spec.file_lines_above m depth name.now bytes.now)) }
         ensures kept { F.files files.new ≡ F.files files.old }
     {
         let file = NamedFile {
@@ -87,10 +88,10 @@ impl Pass<'_> {
         line: &LentLine<'_>,
     ) -> Result<(), LineFilesFault>
         ensures found { (m : FileMap) → F.files files.old ≡ Some m → OnOk result
-            (self.new.found ≡ self.old.found ++ spec.file_names
-            (spec.lines_of_line m file.entry.depth file.entry.name.now (reverse blocks.old.items) line.now)) }
+            (self.new.found ≡ self.old.found ++ spec.line_file_names
+            (spec.file_lines_of_line m file.entry.depth file.entry.name.now (reverse blocks.old.items) line.now)) }
         ensures blocks { OnOk result (reverse blocks.new.items
-            ≡ excerpts.blocks_behind_line (reverse blocks.old.items) line.now (reading_of line.now.text)) }
+            ≡ excerpts.blocks_behind_line (reverse blocks.old.items) line.now (store_line_reading_of line.now.text)) }
         ensures kept { F.files files.new ≡ F.files files.old }
     {
         self.push(alloc, file, line.number(), line.text())?;
@@ -113,7 +114,7 @@ impl Pass<'_> {
         depth: u8,
     ) -> Result<(), LineFilesFault>
         ensures found { (m : FileMap) → F.files files.old ≡ Some m → OnOk result
-            (self.new.found ≡ self.old.found ++ spec.file_names (spec.lines_below m depth name.now)) }
+            (self.new.found ≡ self.old.found ++ spec.line_file_names (spec.file_lines_below m depth name.now)) }
         ensures kept { F.files files.new ≡ F.files files.old }
     {
         if depth == 0 {

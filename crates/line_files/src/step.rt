@@ -19,9 +19,9 @@ pub(crate) enum Step<'a> {
 }
 
 /// Returns the effect of a line on the files of the lines after it. A definition is not parsed.
-#[tactic(auto, unfolding(deck_lines::specs::Readings::reading_of))]
+#[tactic(auto, unfolding(deck_lines::specs::Readings::store_line_reading_of))]
 pub(crate) fn step_of(line: &[u8]) -> Step<'_>
-    ensures { spec.IsStepOf line.now result }
+    ensures { spec.IsLineFileStepOf line.now result }
 {
     let role = match classify(line) {
         LineKind::Include(name) => return Step::Includes(name),
@@ -63,7 +63,7 @@ pub(crate) fn change_blocks(
 
 // Reports whether an end line with this ending closes the innermost block, which is the last.
 fn closes_innermost(blocks: &[Block], ending: Ending) -> bool
-    ensures { result ≡ excerpts.closes_innermost ending (reverse blocks.now) }
+    ensures { result ≡ excerpts.closes_innermost_block ending (reverse blocks.now) }
 {
     match blocks.last() {
         Some(block) => same_ending(ending, block.ending),

@@ -5,79 +5,85 @@ use Rattle.std.specs.List.{AllByRecursion}
 use Rattle.std.proofs.lemmas.List.{reverse-append}
 use Rattle.std.proofs.lemmas.Option.{same_Some}
 use Rattle.def_lines.specs.Kinds as line
-use Rattle.def_lines.specs.Kinds.{Kind, kind_of}
+use Rattle.def_lines.specs.Kinds.{LineKindWithArguments, kind_of_line}
 use Rattle.def_entry.specs.declared.fault.EntryFault.{EntryFault}
 use Rattle.def_entry.specs.declared.key.Key.{Key}
 use Rattle.def_entry.specs.Entries.{Entry}
 use Rattle.def_entry.specs.EntryReading.{entry_of}
-use Rattle.def_entry.specs.SameKeys.{is_same}
-use Rattle.def_entry.proofs.SameKeys.{same_keys}
+use Rattle.def_entry.specs.SameKeys.{is_same_entry_key}
+use Rattle.def_entry.proofs.SameKeys.{same_entry_keys}
 use Rattle.deck_lines.specs.declared.line.DeckLine.{DeckLine}
-use Rattle.deck_lines.specs.Readings.{defined_by, entry_in, of_entry, reading_by, reading_of}
+use Rattle.deck_lines.specs.Readings.{defined_by, entry_in_store_line, store_line_reading_by_kind}
+use Rattle.deck_lines.specs.Readings.{store_line_reading_of, store_line_reading_of_entry}
 use Rattle.deck.specs.Active.{active_lines}
-use Rattle.deck.specs.Decks.{Contents}
-use Rattle.deck.specs.Tables.{Definitions, active_definitions, definition_by, definitions_from, entry_at, table}
-use Rattle.deck.specs.Tables.{table_of}
-use Rattle.table_names.specs.Kinds.{FitsKinds, may_say}
-use Rattle.table_names.proofs.LineKinds.{line_says}
+use Rattle.deck.specs.Decks.{DeckContents}
+use Rattle.deck.specs.Tables.{DeckDefinitions, active_definitions, active_definitions_from, definition_of_active_line}
+use Rattle.deck.specs.Tables.{entry_at, table_of_deck, table_of_deck_definitions}
+use Rattle.table_names.specs.Kinds.{TableNamesFitKinds, table_name_may_have}
+use Rattle.table_names.proofs.LineKinds.{line_fits_table_name}
 use Rattle.general_lemmas.proofs.Properties.{all_append}
 
 -- ---- a line that defines a key has its entry
-of_line : (r : Result (Key × Entry) EntryFault) (p : Key × Entry) → defined_by (of_entry r) ≡ Some p → r ≡ Ok p
-of_line (Ok q) p e = ap Ok (same_Some q p e)
-of_line (Err fault) p e = cc
+line_of_live_key_has_its_entry : (r : Result (Key × Entry) EntryFault) (p : Key × Entry)
+    → defined_by (store_line_reading_of_entry r) ≡ Some p → r ≡ Ok p
+line_of_live_key_has_its_entry (Ok q) p e = ap Ok (same_Some q p e)
+line_of_live_key_has_its_entry (Err fault) p e = cc
 
 -- the definition of a reading is the entry of its text
-by_kind : (text : List ℕ) (k : Kind) (p : Key × Entry) → defined_by (reading_by text k) ≡ Some p → entry_of text ≡ Ok p
-by_kind text line.Definition p e = of_line (entry_of text) p e
-by_kind text line.UnitList p e = of_line (entry_of text) p e
-by_kind text line.Blank p e = cc
-by_kind text (line.Include name) p e = cc
-by_kind text (line.Locale name) p e = cc
-by_kind text line.EndLocale p e = cc
-by_kind text (line.Set name value) p e = cc
-by_kind text (line.Var name values) p e = cc
-by_kind text (line.VarNot name values) p e = cc
-by_kind text line.EndVar p e = cc
-by_kind text line.Utf8 p e = cc
-by_kind text line.EndUtf8 p e = cc
-by_kind text (line.Message text_of) p e = cc
-by_kind text line.Prompt p e = cc
-by_kind text line.UnknownDirective p e = cc
-by_kind text line.BadDirective p e = cc
+live_reading_is_entry_of_text : (text : List ℕ) (k : LineKindWithArguments) (p : Key × Entry)
+    → defined_by (store_line_reading_by_kind text k) ≡ Some p → entry_of text ≡ Ok p
+live_reading_is_entry_of_text text line.Definition p e = line_of_live_key_has_its_entry (entry_of text) p e
+live_reading_is_entry_of_text text line.UnitList p e = line_of_live_key_has_its_entry (entry_of text) p e
+live_reading_is_entry_of_text text line.Blank p e = cc
+live_reading_is_entry_of_text text (line.Include name) p e = cc
+live_reading_is_entry_of_text text (line.Locale name) p e = cc
+live_reading_is_entry_of_text text line.EndLocale p e = cc
+live_reading_is_entry_of_text text (line.Set name value) p e = cc
+live_reading_is_entry_of_text text (line.Var name values) p e = cc
+live_reading_is_entry_of_text text (line.VarNot name values) p e = cc
+live_reading_is_entry_of_text text line.EndVar p e = cc
+live_reading_is_entry_of_text text line.Utf8 p e = cc
+live_reading_is_entry_of_text text line.EndUtf8 p e = cc
+live_reading_is_entry_of_text text (line.Message text_of) p e = cc
+live_reading_is_entry_of_text text line.Prompt p e = cc
+live_reading_is_entry_of_text text line.UnknownDirective p e = cc
+live_reading_is_entry_of_text text line.BadDirective p e = cc
 
 -- the definition of a line is the entry of its text
-defined : (x : DeckLine) (p : Key × Entry) → entry_in x ≡ Some p → entry_of x.text ≡ Ok p
-unfolding entry_in reading_of
-defined x p e = by x.mark refl
+live_definition_is_entry_of_text : (x : DeckLine) (p : Key × Entry) → entry_in_store_line x ≡ Some p
+    → entry_of x.text ≡ Ok p
+unfolding entry_in_store_line store_line_reading_of
+live_definition_is_entry_of_text x p e = by x.mark refl
   where
     by : (b : Bool) → x.mark ≡ b → entry_of x.text ≡ Ok p
     by true q = let z : None ≡ Some p =
-        sym (ap (λ b. cond b None (defined_by (reading_by x.text (kind_of x.text)))) q) ∙ e in cc
-    by false q = by_kind x.text (kind_of x.text) p (sym
-        (ap (λ b. cond b None (defined_by (reading_by x.text (kind_of x.text)))) q) ∙ e)
+        sym (ap (λ b. cond b None (defined_by (store_line_reading_by_kind x.text (kind_of_line x.text)))) q) ∙ e in cc
+    by false q = live_reading_is_entry_of_text x.text (kind_of_line x.text) p (sym
+        (ap (λ b. cond b None (defined_by (store_line_reading_by_kind x.text (kind_of_line x.text)))) q) ∙ e)
 
 -- ---- each definition fits the kind of its key
 abbrev Fits : Key × (ℕ × Entry) → Type 0
-Fits p = may_say p.0.kind p.1.1.what ≡ true
+Fits p = table_name_may_have p.0.kind p.1.1.what ≡ true
 
 -- the definition of a single line fits its key
-one_fits : (place : ℕ) (active : Bool) (o : Option (Key × Entry))
-    → ((p : Key × Entry) → o ≡ Some p → may_say p.0.kind p.1.what ≡ true)
-    → AllByRecursion Fits (definition_by place active o)
-one_fits place active None h = tt
-one_fits place true (Some p) h = (h p refl, tt)
-one_fits place false (Some p) h = tt
+live_line_definition_fits_key : (place : ℕ) (active : Bool) (o : Option (Key × Entry))
+    → ((p : Key × Entry) → o ≡ Some p → table_name_may_have p.0.kind p.1.what ≡ true)
+    → AllByRecursion Fits (definition_of_active_line place active o)
+live_line_definition_fits_key place active None h = tt
+live_line_definition_fits_key place true (Some p) h = (h p refl, tt)
+live_line_definition_fits_key place false (Some p) h = tt
 
 -- the definitions of lines fit their keys
-from_fits : (place : ℕ) (flags : List Bool) (lines : List DeckLine)
-    → AllByRecursion Fits (definitions_from place flags lines)
-from_fits place [] lines = tt
-from_fits place (f ∷ flags) [] = tt
-from_fits place (f ∷ flags) (x ∷ lines) =
-    all_append Fits (definition_by place f (entry_in x)) (definitions_from (place + 1) flags lines)
-    (one_fits place f (entry_in x) (λ p e. line_says x.text p.0 p.1 (defined x p e)))
-    (from_fits (place + 1) flags lines)
+live_line_definitions_fit_keys : (place : ℕ) (flags : List Bool) (lines : List DeckLine)
+    → AllByRecursion Fits (active_definitions_from place flags lines)
+live_line_definitions_fit_keys place [] lines = tt
+live_line_definitions_fit_keys place (f ∷ flags) [] = tt
+live_line_definitions_fit_keys place (f ∷ flags) (x ∷ lines) =
+    all_append Fits (definition_of_active_line place f (entry_in_store_line x))
+    (active_definitions_from (place + 1) flags lines)
+    (live_line_definition_fits_key place f (entry_in_store_line x)
+    (λ p e. line_fits_table_name x.text p.0 p.1 (live_definition_is_entry_of_text x p e)))
+    (live_line_definitions_fit_keys (place + 1) flags lines)
 
 -- a property of all items is a property of all items in reverse order
 all_reverse : {A : Type 0} (P : A → Type 0) (xs : List A) → AllByRecursion P xs → AllByRecursion P (reverse xs)
@@ -87,22 +93,25 @@ all_reverse P (x ∷ xs) h =
     (all_append P (reverse xs) (x ∷ []) (all_reverse P xs h.1) (h.0, tt))
 
 -- an entry that is found fits its key
-found_fits : (ds : Definitions) → AllByRecursion Fits ds → (k : Key) (e : Entry) → entry_at (table_of ds) k ≡ Some e
-    → may_say k.kind e.what ≡ true
-found_fits [] h k e q = cc
-found_fits (d ∷ ds) h k e q = by (found_fits ds h.1 k e) (is_same k d.0) refl
+live_entry_fits_its_key : (ds : DeckDefinitions) → AllByRecursion Fits ds → (k : Key) (e : Entry)
+    → entry_at (table_of_deck_definitions ds) k ≡ Some e
+    → table_name_may_have k.kind e.what ≡ true
+live_entry_fits_its_key [] h k e q = cc
+live_entry_fits_its_key (d ∷ ds) h k e q = by (live_entry_fits_its_key ds h.1 k e) (is_same_entry_key k d.0) refl
   where
-    by : (entry_at (table_of ds) k ≡ Some e → may_say k.kind e.what ≡ true) → (b : Bool) → is_same k d.0 ≡ b
-        → may_say k.kind e.what ≡ true
+    by : (entry_at (table_of_deck_definitions ds) k ≡ Some e → table_name_may_have k.kind e.what ≡ true) → (b : Bool)
+        → is_same_entry_key k d.0 ≡ b
+        → table_name_may_have k.kind e.what ≡ true
     by rest true s =
-        let is : d.1.1 ≡ e = same_Some d.1.1 e (sym (ap (λ b. cond b (Some d.1.1) (entry_at (table_of ds) k)) s) ∙ q) in
-        let key : k ≡ d.0 = (same_keys k d.0).0 s in
-        subst (λ (x : Key). may_say x.kind e.what ≡ true) (sym key)
-        (subst (λ (x : Entry). may_say d.0.kind x.what ≡ true) is h.0)
-    by rest false s = rest (sym (ap (λ b. cond b (Some d.1.1) (entry_at (table_of ds) k)) s) ∙ q)
+        let is : d.1.1 ≡ e = same_Some d.1.1 e
+        (sym (ap (λ b. cond b (Some d.1.1) (entry_at (table_of_deck_definitions ds) k)) s) ∙ q) in
+        let key : k ≡ d.0 = (same_entry_keys k d.0).0 s in
+        subst (λ (x : Key). table_name_may_have x.kind e.what ≡ true) (sym key)
+        (subst (λ (x : Entry). table_name_may_have d.0.kind x.what ≡ true) is h.0)
+    by rest false s = rest (sym (ap (λ b. cond b (Some d.1.1) (entry_at (table_of_deck_definitions ds) k)) s) ∙ q)
 
 -- all entries of a deck fit their keys
-pub fits_kinds : (d : Contents) → FitsKinds (table d)
+pub live_deck_entries_fit_kinds : (d : DeckContents) → TableNamesFitKinds (table_of_deck d)
 unfolding active_definitions
-fits_kinds d = found_fits (active_definitions d.settings d.lines) (all_reverse Fits _
-    (from_fits 0 (active_lines d.settings d.lines) d.lines))
+live_deck_entries_fit_kinds d = live_entry_fits_its_key (active_definitions d.settings d.lines) (all_reverse Fits _
+    (live_line_definitions_fit_keys 0 (active_lines d.settings d.lines) d.lines))

@@ -7,34 +7,34 @@ use Rattle.std.proofs.lemmas.List.{length-set}
 use Rattle.std.proofs.lemmas.List.Elements.{Contains-append_right, Contains-push_cases}
 use Rattle.expr_tree.specs.declared.word_list.WordUse.{WordUse}
 use Rattle.def_entry.specs.declared.key.Key.{Key}
-use Rattle.def_entry.specs.Tables.{Table, entry_at, is_present}
+use Rattle.def_entry.specs.Tables.{EntryTable, entry_at, is_entry_present}
 use Rattle.name_walk.specs.declared.step.Step.{Step}
 use Rattle.name_walk.specs.declared.step.Step.TheVariants.{Nowhere}
 use Rattle.name_walk.specs.ClosedNames as walk
-use Rattle.name_walk.specs.ClosedNames.{EndsWithin, IsDone, IsSettled}
-use Rattle.name_walk.specs.NewlyClosed.{AreNewlyClosed, AreOrdered, IsReached}
-use Rattle.name_walk.specs.Steps.{Graph, LeadsTo, NameReaches, at_once, further, steps}
-use Rattle.name_walk.proofs.ClosedPaths.{closed_law_holds}
+use Rattle.name_walk.specs.ClosedNames.{IsSettledInGraph, IsSettledOrWalked, WalksEndWithin}
+use Rattle.name_walk.specs.NewlyClosed.{AreNewlyClosedByWalk, AreOrderedInGraph, IsReachedInGraph}
+use Rattle.name_walk.specs.Steps.{Graph, GraphLeadsTo, GraphReaches, at_once, further, graph_steps}
+use Rattle.name_walk.proofs.ClosedPaths.{closed_graph_name_law_holds}
 use Rattle.name_walk.proofs.Lists.{all_at}
 use Rattle.tree_eval.specs.declared.outcome.Outcome.{Outcome}
 use Rattle.table_names.specs.declared.fault.NameFault.{NameFault}
-use Rattle.table_names.specs.ClosedKeys.{IsClosed}
-use Rattle.table_names.specs.Words.{key_words}
-use Rattle.name_numbers.specs.FaultLaws.{NumberedFaultLaw}
-use Rattle.name_numbers.specs.NumberedNames.{AreWords, ForOne, ForRefused, ForTwo, ForUnknown, IsWord, LeadToKnown}
-use Rattle.name_numbers.specs.NumberedNames.{fault_by_name}
+use Rattle.table_names.specs.ClosedKeys.{IsClosedKey}
+use Rattle.table_names.specs.Words.{table_words_of_key}
+use Rattle.name_numbers.specs.FaultLaws.{NumberedNameFaultLaw}
+use Rattle.name_numbers.specs.NumberedNames.{AreWords, ForOne, ForRefused, ForTwo, ForUnknown, IsWord}
+use Rattle.name_numbers.specs.NumberedNames.{LeadToKnownNumbers, fault_by_name}
 use Rattle.live_table.specs.declared.callee.Callee.{Callee}
 use Rattle.live_table.specs.declared.dead_end.DeadEnd.{DeadEnd}
-use Rattle.live_table.specs.Due.{AreDue, IsDue, with_outcome}
-use Rattle.live_table.specs.ExploredNames.{AreExplored, fault_at}
-use Rattle.live_table.specs.Looks.{AreLooks}
-use Rattle.live_table.specs.Sound.{AreNumberedNames, HasLooksOf, HasStartsOf, IsFaithful}
-use Rattle.live_table.specs.TableContents.{Listed, Looks, key_at, looks_of}
+use Rattle.live_table.specs.Due.{AreDueToBeSettled, IsDueToBeSettled, nodes_with_settled_outcome}
+use Rattle.live_table.specs.ExploredNames.{AreExplored, explored_fault_at}
+use Rattle.live_table.specs.Looks.{AreNodeLooks}
+use Rattle.live_table.specs.Sound.{AreSoundNodes, HasCachedLooks, HasCachedPartStarts, IsFaithfulNode}
+use Rattle.live_table.specs.TableContents.{NodeLists, NodeLooks, node_key_at, node_looks_of}
 use Rattle.general_lemmas.proofs.Places.{get_set_same, get_set_other}
 use Rattle.general_lemmas.proofs.Members.{no_member, member_first, member_later}
 
 -- ---- steps that all lead somewhere are those of their words, whatever the dead ends
-module _ (t : Table) (key : ℕ → Key) (one other : ℕ → Option Key → NameFault) where
+module _ (t : EntryTable) (key : ℕ → Key) (one other : ℕ → Option Key → NameFault) where
   any_word : (u : WordUse) (x y : Step) → ((b : ℕ) → x ≡ Nowhere b → ⊥) → IsWord t key one u x y
       → IsWord t key other u x y
   any_word u x y h (ForRefused b is e) = absurd (h b refl)
@@ -55,58 +55,65 @@ module _ (t : Table) (key : ℕ → Key) (one other : ℕ → Option Key → Nam
   )
 
 -- a closed name has no step that leads nowhere
-no_end : (g : Graph) (k n b : ℕ) → EndsWithin g k n → Contains (steps g n) (Nowhere b) → ⊥
-no_end g zero n b e i = e
-no_end g (suc k) n b e i = all_at (walk.StepLeadsInto (EndsWithin g k)) (steps g n) (Nowhere b) e i
+closed_node_has_no_dead_end : (g : Graph) (k n b : ℕ) → WalksEndWithin g k n → Contains (graph_steps g n) (Nowhere b)
+    → ⊥
+closed_node_has_no_dead_end g zero n b e i = e
+closed_node_has_no_dead_end g (suc k) n b e i = all_at (walk.WalkStepLeadsInto (WalksEndWithin g k)) (graph_steps g n)
+    (Nowhere b) e i
 
 -- ---- the facts known about each name of an order
-record IsReady (t : Table) (l : Listed) (n : ℕ) : Type 0 where
+record IsReady (t : EntryTable) (l : NodeLists) (n : ℕ) : Type 0 where
   pub within : n < length l.keys
-  pub present : is_present t (key_at l.keys n) ≡ true
-  pub closed : IsClosed t (key_at l.keys n)
-  pub ends : walk.IsClosedName l.graph n
-  pub faithful : IsFaithful t l n
-  pub starts : HasStartsOf t l n
-  pub looks : HasLooksOf t l n
+  pub present : is_entry_present t (node_key_at l.keys n) ≡ true
+  pub closed : IsClosedKey t (node_key_at l.keys n)
+  pub ends : walk.IsClosedInGraph l.graph n
+  pub faithful : IsFaithfulNode t l n
+  pub starts : HasCachedPartStarts t l n
+  pub looks : HasCachedLooks t l n
 
 -- some names of an order are settled, in the same nodes
-record AreSettledFirst (l now : Listed) (before later : List ℕ) : Type 0 where
+record AreSettledFirst (l now : NodeLists) (before later : List ℕ) : Type 0 where
   pub keys : now.keys ≡ l.keys
   pub graph : now.graph ≡ l.graph
   pub looks : now.looks ≡ l.looks
   pub size : length now.settled_flags ≡ length l.keys
-  pub done : (m : ℕ) → IsDone l.settled_flags before m → IsSettled now.settled_flags m
-  pub fresh : (m : ℕ) → Contains later m → IsSettled now.settled_flags m → ⊥
+  pub done : (m : ℕ) → IsSettledOrWalked l.settled_flags before m → IsSettledInGraph now.settled_flags m
+  pub fresh : (m : ℕ) → Contains later m → IsSettledInGraph now.settled_flags m → ⊥
   pub callees : (m : ℕ) → Contains later m → slice_get now.callees m ≡ slice_get l.callees m
 
 -- a number that is not settled has a mark that is not set
-unsettled : (bs : List Bool) (m : ℕ) → m < length bs → (slice_get bs m ≡ Some true → ⊥) → slice_get bs m ≡ Some false
-unsettled [] m h f = absurd (omega arith)
-unsettled (true ∷ bs) zero h f = absurd (f refl)
-unsettled (false ∷ bs) zero h f = refl
-unsettled (b ∷ bs) (suc m) h f = unsettled bs m (omega arith) f
+unsettled_number_has_clear_flag : (bs : List Bool) (m : ℕ) → m < length bs → (slice_get bs m ≡ Some true → ⊥)
+    → slice_get bs m ≡ Some false
+unsettled_number_has_clear_flag [] m h f = absurd (omega arith)
+unsettled_number_has_clear_flag (true ∷ bs) zero h f = absurd (f refl)
+unsettled_number_has_clear_flag (false ∷ bs) zero h f = refl
+unsettled_number_has_clear_flag (b ∷ bs) (suc m) h f = unsettled_number_has_clear_flag bs m (omega arith) f
 
-module _ (t : Table) (l : Listed) where
-  one_due : (now : Listed) (before ns : List ℕ) (n : ℕ) → IsReady t l n → AreSettledFirst l now before (n ∷ ns)
-      → ((m : ℕ) → LeadsTo l.graph n m → IsDone l.settled_flags before m) → IsDue t now n
+module _ (t : EntryTable) (l : NodeLists) where
+  one_due : (now : NodeLists) (before ns : List ℕ) (n : ℕ) → IsReady t l n → AreSettledFirst l now before (n ∷ ns)
+      → ((m : ℕ) → GraphLeadsTo l.graph n m → IsSettledOrWalked l.settled_flags before m) → IsDueToBeSettled t now n
   one_due now before ns n r s below = record {
     in_table = inside;
-    still_unsettled = unsettled now.settled_flags n (let a : length now.settled_flags ≡ length l.keys = s.size in
+    still_unsettled = unsettled_number_has_clear_flag now.settled_flags n
+        (let a : length now.settled_flags ≡ length l.keys = s.size in
         let b : n < length l.keys = r.within in omega arith) (s.fresh n (member_first n n ns refl));
-    key_has_entry = subst (λ (ks : List Key). is_present t (key_at ks n) ≡ true) (sym s.keys) r.present;
-    key_closed = subst (λ (ks : List Key). IsClosed t (key_at ks n)) (sym s.keys) r.closed;
-    name_closed = subst (λ (g : Graph). walk.IsClosedName g n) (sym s.graph) r.ends;
-    targets_settled = λ m h. s.done m (below m (subst (λ (g : Graph). LeadsTo g n m) s.graph h));
+    key_has_entry = subst (λ (ks : List Key). is_entry_present t (node_key_at ks n) ≡ true) (sym s.keys) r.present;
+    key_closed = subst (λ (ks : List Key). IsClosedKey t (node_key_at ks n)) (sym s.keys) r.closed;
+    name_closed = subst (λ (g : Graph). walk.IsClosedInGraph g n) (sym s.graph) r.ends;
+    targets_settled = λ m h. s.done m (below m (subst (λ (g : Graph). GraphLeadsTo g n m) s.graph h));
     faithful = λ ends.
-        subst (λ (p : List Key × Graph). AreWords t (key_at p.0) ends (key_words t (key_at p.0 n)) (steps p.1 n))
+        subst (λ (p : List Key × Graph). AreWords t (node_key_at p.0) ends (table_words_of_key t (node_key_at p.0 n))
+        (graph_steps p.1 n))
         (λ j. (sym s.keys j, sym s.graph j)) (r.faithful ends);
-    part_starts = λ e c at is. r.starts e c (ap (λ (ks : List Key). entry_at t (key_at ks n)) (sym s.keys) ∙ at)
+    part_starts = λ e c at is. r.starts e c (ap (λ (ks : List Key). entry_at t (node_key_at ks n)) (sym s.keys) ∙ at)
         (sym (s.callees n (member_first n n ns refl)) ∙ is);
     looks = record {
-      looks = subst (λ (p : List Key × (Graph × Looks)). AreLooks t p.0 (key_words t (key_at p.0 n)) (steps p.1.0 n)
-          (looks_of p.1.1 n))
+      looks = subst (λ (p : List Key × (Graph × NodeLooks)).
+          AreNodeLooks t p.0 (table_words_of_key t (node_key_at p.0 n)) (graph_steps p.1.0 n)
+          (node_looks_of p.1.1 n))
           (λ j. (sym s.keys j, (sym s.graph j, sym s.looks j))) r.looks.looks;
-      numbers_distinct = subst (λ (g : Looks). IsDistinct nat_eq (looks_of g n)) (sym s.looks) r.looks.numbers_distinct;
+      numbers_distinct = subst (λ (g : NodeLooks). IsDistinct nat_eq (node_looks_of g n))
+          (sym s.looks) r.looks.numbers_distinct;
     };
   }
     where
@@ -115,9 +122,10 @@ module _ (t : Table) (l : Listed) where
           omega arith
 
   -- one more name is settled
-  next : (now : Listed) (before ns : List ℕ) (n : ℕ) (o : Outcome) (c : Callee) → n < length l.keys
+  next : (now : NodeLists) (before ns : List ℕ) (n : ℕ) (o : Outcome) (c : Callee) → n < length l.keys
       → AreSettledFirst l now before (n ∷ ns)
-      → ((m : ℕ) → Contains ns m → m ≡ n → ⊥) → AreSettledFirst l (with_outcome n o c now) (before ++ n ∷ []) ns
+      → ((m : ℕ) → Contains ns m → m ≡ n → ⊥) → AreSettledFirst l (nodes_with_settled_outcome n o c now)
+      (before ++ n ∷ []) ns
   next now before ns n o c h s apart = record {
     keys = s.keys;
     graph = s.graph;
@@ -128,21 +136,22 @@ module _ (t : Table) (l : Listed) where
     callees = λ m i. get_set_other now.callees n m c (apart m i) ∙ s.callees m (member_later m n ns i);
   }
     where
-      own : IsSettled (set now.settled_flags n true) n
+      own : IsSettledInGraph (set now.settled_flags n true) n
       own = get_set_same now.settled_flags n true
           (let a : length now.settled_flags ≡ length l.keys = s.size in omega arith)
 
-      still : (m : ℕ) → IsSettled now.settled_flags m → IsSettled (set now.settled_flags n true) m
+      still : (m : ℕ) → IsSettledInGraph now.settled_flags m → IsSettledInGraph (set now.settled_flags n true) m
       still m e = elim (cases_eq m n) [
-        | inl q ↦ subst (λ (x : ℕ). IsSettled (set now.settled_flags n true) x) (sym q) own
+        | inl q ↦ subst (λ (x : ℕ). IsSettledInGraph (set now.settled_flags n true) x) (sym q) own
         | inr ne ↦ get_set_other now.settled_flags n m true ne ∙ e
       ]
 
-      done : (m : ℕ) → IsDone l.settled_flags (before ++ n ∷ []) m → IsSettled (set now.settled_flags n true) m
+      done : (m : ℕ) → IsSettledOrWalked l.settled_flags (before ++ n ∷ []) m
+          → IsSettledInGraph (set now.settled_flags n true) m
       done m (inl e) = still m (s.done m (inl e))
       done m (inr i) = elim (Contains-push_cases before n m i) [
         | inl j ↦ still m (s.done m (inr j))
-        | inr q ↦ subst (λ (x : ℕ). IsSettled (set now.settled_flags n true) x) q own
+        | inr q ↦ subst (λ (x : ℕ). IsSettledInGraph (set now.settled_flags n true) x) q own
       ]
 
   apart_from : (n : ℕ) (ns : List ℕ) → IsDistinct nat_eq (n ∷ ns) → (m : ℕ) → Contains ns m → m ≡ n → ⊥
@@ -156,26 +165,28 @@ module _ (t : Table) (l : Listed) where
   unfolding IsDistinct
   later_once n ns d = d.1
 
-  due_from : (ns before : List ℕ) (now : Listed) → ((n : ℕ) → Contains ns n → IsReady t l n)
-      → AreOrdered l.graph l.settled_flags before ns
-      → IsDistinct nat_eq ns → AreSettledFirst l now before ns → AreDue t now ns
+  due_from : (ns before : List ℕ) (now : NodeLists) → ((n : ℕ) → Contains ns n → IsReady t l n)
+      → AreOrderedInGraph l.graph l.settled_flags before ns
+      → IsDistinct nat_eq ns → AreSettledFirst l now before ns → AreDueToBeSettled t now ns
   due_from [] before now r o d s = tt
   due_from (n ∷ ns) before now r o d s = (
     one_due now before ns n (r n (member_first n n ns refl)) s o.0,
-    λ out c. due_from ns (before ++ n ∷ []) (with_outcome n out c now) (λ m i. r m (member_later m n ns i)) o.1
+    λ out c. due_from ns (before ++ n ∷ []) (nodes_with_settled_outcome n out c now)
+        (λ m i. r m (member_later m n ns i)) o.1
         (later_once n ns d)
         (next now before ns n out c (r n (member_first n n ns refl)).within s (apart_from n ns d)),
   )
 
-module _ (law : NumberedFaultLaw) (t : Table) (l : Listed) (ends : List DeadEnd) (known : ℕ → Bool) (query : List Step)
+module _ (law : NumberedNameFaultLaw) (t : EntryTable) (l : NodeLists) (ends : List DeadEnd) (known : ℕ → Bool)
+    (query : List Step)
     (order : List ℕ)
-    (nodes : AreNumberedNames t l) (explored : AreExplored t l ends known) (targets : LeadToKnown known query)
-    (closing : AreNewlyClosed l.graph l.settled_flags query order) where
-  known_below : {n m : ℕ} → known n ≡ true → NameReaches l.graph n m → known m ≡ true
+    (nodes : AreSoundNodes t l) (explored : AreExplored t l ends known) (targets : LeadToKnownNumbers known query)
+    (closing : AreNewlyClosedByWalk l.graph l.settled_flags query order) where
+  known_below : {n m : ℕ} → known n ≡ true → GraphReaches l.graph n m → known m ≡ true
   known_below {n} {m} k (at_once h) = explored.numbers_are.below_known n m k h
   known_below {n} {m} k (further {x = x} h r) = known_below (explored.numbers_are.below_known n x k h) r
 
-  known_reached : (n : ℕ) → IsReached l.graph query n → known n ≡ true
+  known_reached : (n : ℕ) → IsReachedInGraph l.graph query n → known n ≡ true
   known_reached n (r, i, inl e) = subst (λ (x : ℕ). known x ≡ true) (sym e) (targets r i)
   known_reached n (r, i, inr way) = known_below (targets r i) way
 
@@ -187,30 +198,33 @@ module _ (law : NumberedFaultLaw) (t : Table) (l : Listed) (ends : List DeadEnd)
     within = inside;
     present = explored.numbers_are.known_have_entries n is_known;
     closed =
-        sym (law.key t (key_at l.keys) (fault_at ends) l.graph known explored.numbers_are nodes.net.steps_in_range n
+        sym (law.key t (node_key_at l.keys) (explored_fault_at ends) l.graph known explored.numbers_are
+        nodes.net.steps_in_range n
         is_known)
-        ∙ ap (option_map (fault_by_name t (key_at l.keys) (fault_at ends)))
-        ((closed_law_holds.faultless_closed l.graph nodes.net.steps_in_range n
+        ∙ ap (option_map (fault_by_name t (node_key_at l.keys) (explored_fault_at ends)))
+        ((closed_graph_name_law_holds.faultless_closed l.graph nodes.net.steps_in_range n
         (explored.numbers_are.known_in_range n is_known)).0 is_closed);
     ends = is_closed;
     faithful = λ other.
-        any_words t (key_at l.keys) (fault_at ends) other (key_words t (key_at l.keys n)) (steps l.graph n)
-        (λ b j. no_end l.graph (length l.graph) n b is_closed j) (explored.numbers_are.known_steps n is_known);
+        any_words t (node_key_at l.keys) (explored_fault_at ends) other (table_words_of_key t (node_key_at l.keys n))
+        (graph_steps l.graph n)
+        (λ b j. closed_node_has_no_dead_end l.graph (length l.graph) n b is_closed j)
+        (explored.numbers_are.known_steps n is_known);
     starts = explored.part_starts n is_known;
-    looks = explored.looks n is_known (λ b j. no_end l.graph (length l.graph) n b is_closed j);
+    looks = explored.looks n is_known (λ b j. closed_node_has_no_dead_end l.graph (length l.graph) n b is_closed j);
   }
     where
       is_known : known n ≡ true
       is_known = known_in_order n i
 
-      is_closed : walk.IsClosedName l.graph n
+      is_closed : walk.IsClosedInGraph l.graph n
       is_closed = closing.names_closed n i
 
       inside : n < length l.keys
       inside = let a : n < length l.graph = explored.numbers_are.known_in_range n is_known in
           let b : length l.graph ≡ length l.keys = nodes.step_count in omega arith
 
-  pub are_due : AreDue t l order
+  pub are_due : AreDueToBeSettled t l order
   are_due = due_from t l order [] l ready closing.targets_before closing.names_listed_once (record {
     keys = refl;
     graph = refl;

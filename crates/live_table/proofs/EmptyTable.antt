@@ -4,20 +4,20 @@ use Rattle.std.specs.FinMap as map_of
 use Rattle.name_walk.specs.declared.step.Step.TheVariants.{To}
 use Rattle.def_entry.specs.declared.key.Key.{Key}
 use Rattle.def_entry.specs.KeyOrder.{key_cmp}
-use Rattle.deck.specs.Decks.{Contents}
+use Rattle.deck.specs.Decks.{DeckContents}
 use Rattle.live_table.specs.Right.{IsKeySettled}
-use Rattle.live_table.specs.TableView.{state_with_steps}
-use Rattle.live_table.specs.Sound.{IsSound}
-use Rattle.live_table.specs.TableContents.{Listed, no_nodes, shown_table}
+use Rattle.live_table.specs.TableView.{live_state_with_steps}
+use Rattle.live_table.specs.Sound.{IsSoundLiveTable}
+use Rattle.live_table.specs.TableContents.{NodeLists, live_view_of_nodes, no_nodes}
 use Rattle.general_lemmas.proofs.Members.{no_member}
 
-module _ (deck : Contents) where
-  none_settled : (n : Key) → IsKeySettled (state_with_steps (shown_table deck no_nodes 0) 0) n → ⊥
+module _ (deck : DeckContents) where
+  none_settled : (n : Key) → IsKeySettled (live_state_with_steps (live_view_of_nodes deck no_nodes 0) 0) n → ⊥
   none_settled n e =
-      let none : map_of.get (shown_table deck no_nodes 0).kept_outcomes n ≡ None = map_of.get-empty key_cmp n in
+      let none : map_of.get (live_view_of_nodes deck no_nodes 0).kept_outcomes n ≡ None = map_of.get-empty key_cmp n in
       let z : false ≡ true = sym (ap is_some none) ∙ e in cc
 
-  no_names_sound : IsSound deck no_nodes 0
+  no_names_sound : IsSoundLiveTable deck no_nodes 0
   no_names_sound = record {
     numbers = record {
       step_count = refl;
@@ -48,5 +48,5 @@ module _ (deck : Contents) where
     few_reductions = omega arith;
   }
 
-  pub start_sound : (l : Listed) → l ≡ no_nodes → IsSound deck l 0
-  start_sound l e = subst (λ (x : Listed). IsSound deck x 0) (sym e) no_names_sound
+  pub start_sound : (l : NodeLists) → l ≡ no_nodes → IsSoundLiveTable deck l 0
+  start_sound l e = subst (λ (x : NodeLists). IsSoundLiveTable deck x 0) (sym e) no_names_sound

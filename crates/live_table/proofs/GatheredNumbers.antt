@@ -15,9 +15,10 @@ abbrev pub IsGathering : List ℕ → List ℕ → List ℕ → ℕ → Type 0
 IsGathering old now ns i = (m : ℕ) → Contains now m ↔ (Contains old m ⊎ Contains (take i ns) m)
 
 -- a number is appended if it is not there
-pub put_one : (now next : List ℕ) (n : ℕ) → next ≡ cond (is_on_path now n) now (now ++ n ∷ []) → (m : ℕ)
+pub gathered_node_number_is_added : (now next : List ℕ) (n : ℕ) → next ≡ cond (is_on_path now n) now (now ++ n ∷ [])
+    → (m : ℕ)
     → Contains next m ↔ (Contains now m ⊎ (m ≡ n))
-put_one now next n e m = elim (cases_Bool (is_on_path now n)) [
+gathered_node_number_is_added now next n e m = elim (cases_Bool (is_on_path now n)) [
   | inl q ↦ subst (λ (xs : List ℕ). Contains xs m ↔ (Contains now m ⊎ (m ≡ n)))
       (sym (e ∙ cond-true (is_on_path now n) now (now ++ n ∷ []) q)) (
         λ i. inl i,
@@ -34,16 +35,17 @@ put_one now next n e m = elim (cases_Bool (is_on_path now n)) [
 ]
 
 -- at the start nothing is gathered
-pub gathering_start : (old ns : List ℕ) → IsGathering old old ns 0
-gathering_start old ns m = (λ i. inl i, λ h. elim h [ inl i ↦ i | inr z ↦ absurd (no_member m z) ])
+pub no_node_number_is_gathered : (old ns : List ℕ) → IsGathering old old ns 0
+no_node_number_is_gathered old ns m = (λ i. inl i, λ h. elim h [ inl i ↦ i | inr z ↦ absurd (no_member m z) ])
 
 -- the next number is gathered
-pub gathering_next : (old now next ns : List ℕ) (i n : ℕ) → slice_get ns i ≡ Some n → IsGathering old now ns i
+pub next_node_number_is_gathered : (old now next ns : List ℕ) (i n : ℕ) → slice_get ns i ≡ Some n
+    → IsGathering old now ns i
     → next ≡ cond (is_on_path now n) now (now ++ n ∷ []) → IsGathering old next ns (i + 1)
-gathering_next old now next ns i n at g e m = (to, from)
+next_node_number_is_gathered old now next ns i n at g e m = (to, from)
   where
     to : Contains next m → Contains old m ⊎ Contains (take (i + 1) ns) m
-    to h = elim ((put_one now next n e m).0 h) [
+    to h = elim ((gathered_node_number_is_added now next n e m).0 h) [
       | inl a ↦ elim ((g m).0 a) [
         | inl b ↦ inl b
         | inr b ↦ inr (subst (λ (xs : List ℕ). Contains xs m) (sym (take_at ns i n at))
@@ -54,15 +56,15 @@ gathering_next old now next ns i n at g e m = (to, from)
     ]
 
     from : Contains old m ⊎ Contains (take (i + 1) ns) m → Contains next m
-    from (inl a) = (put_one now next n e m).1 (inl ((g m).1 (inl a)))
+    from (inl a) = (gathered_node_number_is_added now next n e m).1 (inl ((g m).1 (inl a)))
     from (inr a) = elim (Contains-push_cases (take i ns) n m
         (subst (λ (xs : List ℕ). Contains xs m) (take_at ns i n at) a)) [
-          | inl b ↦ (put_one now next n e m).1 (inl ((g m).1 (inr b)))
-          | inr is ↦ (put_one now next n e m).1 (inr (sym is))
+          | inl b ↦ (gathered_node_number_is_added now next n e m).1 (inl ((g m).1 (inr b)))
+          | inr is ↦ (gathered_node_number_is_added now next n e m).1 (inr (sym is))
         ]
 
 -- at the end all numbers are gathered
-pub gathered_all : (old now ns : List ℕ) (i : ℕ) → length ns ≡ i → IsGathering old now ns i → (m : ℕ)
+pub all_node_numbers_are_gathered : (old now ns : List ℕ) (i : ℕ) → length ns ≡ i → IsGathering old now ns i → (m : ℕ)
     → Contains now m ↔ (Contains old m ⊎ Contains ns m)
-gathered_all old now ns i e g m =
+all_node_numbers_are_gathered old now ns i e g m =
     subst (λ (xs : List ℕ). Contains now m ↔ (Contains old m ⊎ Contains xs m)) (take_all i ns (omega (arith, e))) (g m)

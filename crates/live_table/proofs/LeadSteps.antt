@@ -4,7 +4,7 @@ use Rattle.std.proofs.Common.{Contains}
 use Rattle.std.proofs.lemmas.Option.{same_Some}
 use Rattle.expr_tree.specs.declared.word_list.WordUse.{WordUse}
 use Rattle.def_entry.specs.declared.key.Key.{Key}
-use Rattle.def_entry.specs.Tables.{Table, is_present}
+use Rattle.def_entry.specs.Tables.{EntryTable, is_entry_present}
 use Rattle.name_walk.specs.declared.step.Step.{Step}
 use Rattle.name_walk.specs.declared.step.Step.TheVariants as step
 use Rattle.name_numbers.specs.NumberedNames.{ForOne, ForTwo}
@@ -12,76 +12,82 @@ use Rattle.live_table.specs.declared.dead_end.DeadEnd.{DeadEnd}
 use Rattle.live_table.specs.declared.word_targets.Lead.{Lead}
 use Rattle.live_table.specs.declared.word_targets.Lead.TheVariants.{Refused, Nowhere, One, Two}
 use Rattle.live_table.specs.declared.word_steps.WordSteps.{WordSteps}
-use Rattle.live_table.specs.Exploration.{AreWritten, IsKnown}
-use Rattle.live_table.specs.WordTargets.{IsLead, IsQueryLead, is_refused_lead, numbers, steps_to}
-use Rattle.live_table.specs.Looks.{AreLooksPut}
-use Rattle.live_table.specs.TableContents.{Listed, key_at}
-use Rattle.live_table.proofs.LookedKeys.{looks_put, one_step, two_steps}
-use Rattle.live_table.proofs.WrittenSteps.{first_present, one_present, refused_written, second_present, two_written}
-use Rattle.live_table.proofs.WrittenSteps.{unknown_written}
+use Rattle.live_table.specs.Exploration.{AreExplorationSteps, IsKnownToExploration}
+use Rattle.live_table.specs.WordTargets.{IsLiveQueryLead, IsNodeLead, is_refused_node_lead, lead_node_numbers}
+use Rattle.live_table.specs.WordTargets.{node_steps_of_lead}
+use Rattle.live_table.specs.Looks.{AreNodeLooksAdded}
+use Rattle.live_table.specs.TableContents.{NodeLists, node_key_at}
+use Rattle.live_table.proofs.LookedKeys.{looks_put, single_node_target_is_both_steps, two_node_targets_are_two_steps}
+use Rattle.live_table.proofs.WrittenSteps.{first_node_target_is_present, only_node_target_is_present, refused_written}
+use Rattle.live_table.proofs.WrittenSteps.{second_node_target_is_present, two_written, unknown_written}
 use Rattle.general_lemmas.proofs.Members.{no_member, member_first, member_later, member_cases}
 
 -- ---- targets
 -- the lead of a word of an entry is that of a word of a query
-pub query_lead : (t : Table) (keys : List Key) (u : WordUse) (old new : List ℕ) (lead : Lead)
-    → IsLead t keys u old new lead → IsQueryLead t keys u lead
-query_lead t keys u old new Refused h = h
-query_lead t keys u old new Nowhere h = (h.0, h.1, λ m i. absurd (no_member m i))
-query_lead t keys u old new (One n) h = (h.0, h.1.targets, h.1.targets_in_table)
-query_lead t keys u old new (Two n m) h = (h.0, h.1.targets, h.1.targets_in_table)
+pub node_lead_is_query_lead : (t : EntryTable) (keys : List Key) (u : WordUse) (old new : List ℕ) (lead : Lead)
+    → IsNodeLead t keys u old new lead → IsLiveQueryLead t keys u lead
+node_lead_is_query_lead t keys u old new Refused h = h
+node_lead_is_query_lead t keys u old new Nowhere h = (h.0, h.1, λ m i. absurd (no_member m i))
+node_lead_is_query_lead t keys u old new (One n) h = (h.0, h.1.targets, h.1.targets_in_table)
+node_lead_is_query_lead t keys u old new (Two n m) h = (h.0, h.1.targets, h.1.targets_in_table)
 
-module _ (t : Table) (keys : List Key) (u : WordUse) where
+module _ (t : EntryTable) (keys : List Key) (u : WordUse) where
   -- targets have numbers
-  pub lead_within : (lead : Lead) → IsQueryLead t keys u lead → (m : ℕ) → Contains (numbers lead) m → m < length keys
+  pub lead_within : (lead : Lead) → IsLiveQueryLead t keys u lead → (m : ℕ) → Contains (lead_node_numbers lead) m
+      → m < length keys
   lead_within Refused h m i = absurd (no_member m i)
   lead_within Nowhere h m i = absurd (no_member m i)
   lead_within (One n) h m i = h.2 m i
   lead_within (Two n p) h m i = h.2 m i
 
-  is_there : (m n : ℕ) → m ≡ n → is_present t (key_at keys n) ≡ true → is_present t (key_at keys m) ≡ true
-  is_there m n e p = subst (λ (x : ℕ). is_present t (key_at keys x) ≡ true) (sym e) p
+  is_there : (m n : ℕ) → m ≡ n → is_entry_present t (node_key_at keys n) ≡ true
+      → is_entry_present t (node_key_at keys m) ≡ true
+  is_there m n e p = subst (λ (x : ℕ). is_entry_present t (node_key_at keys x) ≡ true) (sym e) p
 
   -- targets have entries
-  pub lead_present : (lead : Lead) → IsQueryLead t keys u lead → (m : ℕ) → Contains (numbers lead) m
-      → is_present t (key_at keys m) ≡ true
+  pub lead_present : (lead : Lead) → IsLiveQueryLead t keys u lead → (m : ℕ) → Contains (lead_node_numbers lead) m
+      → is_entry_present t (node_key_at keys m) ≡ true
   lead_present Refused h m i = absurd (no_member m i)
   lead_present Nowhere h m i = absurd (no_member m i)
   lead_present (One n) h m i = elim (member_cases m n [] i) [
-    | inl e ↦ is_there m n e (one_present t u (key_at keys n) h.1)
+    | inl e ↦ is_there m n e (only_node_target_is_present t u (node_key_at keys n) h.1)
     | inr j ↦ absurd (no_member m j)
   ]
   lead_present (Two n p) h m i = elim (member_cases m n (p ∷ []) i) [
-    | inl e ↦ is_there m n e (first_present t u (key_at keys n) (key_at keys p) h.1)
+    | inl e ↦ is_there m n e (first_node_target_is_present t u (node_key_at keys n) (node_key_at keys p) h.1)
     | inr j ↦ elim (member_cases m p [] j) [
-      | inl e ↦ is_there m p e (second_present t u (key_at keys n) (key_at keys p) h.1)
+      | inl e ↦ is_there m p e (second_node_target_is_present t u (node_key_at keys n) (node_key_at keys p) h.1)
       | inr k ↦ absurd (no_member m k)
     ]
   ]
 
   -- ---- the keys at which a word with targets looks
   abbrev Put : (old new : List ℕ) → WordSteps → Type 0
-  Put old new s = AreLooksPut t keys u (s.first ∷ s.second ∷ []) old new
+  Put old new s = AreNodeLooksAdded t keys u (s.first ∷ s.second ∷ []) old new
 
-  pub steps_looked : (old new : List ℕ) (lead : Lead) (s : WordSteps) → IsLead t keys u old new lead
-      → Some s ≡ steps_to lead
-      → AreLooksPut t keys u (s.first ∷ s.second ∷ []) old new
+  pub steps_looked : (old new : List ℕ) (lead : Lead) (s : WordSteps) → IsNodeLead t keys u old new lead
+      → Some s ≡ node_steps_of_lead lead
+      → AreNodeLooksAdded t keys u (s.first ∷ s.second ∷ []) old new
   steps_looked old new Refused s h e = cc
   steps_looked old new Nowhere s h e = cc
   steps_looked old new (One n) s h e =
       let w : WordSteps = record { first = step.To n; second = step.To n } in
-      subst (Put old new) (sym (same_Some s w e)) (looks_put t keys u (n ∷ []) old new _ h.1 (one_step n))
+      subst (Put old new) (sym (same_Some s w e))
+      (looks_put t keys u (n ∷ []) old new _ h.1 (single_node_target_is_both_steps n))
   steps_looked old new (Two n m) s h e =
       let w : WordSteps = record { first = step.To n; second = step.To m } in
-      subst (Put old new) (sym (same_Some s w e)) (looks_put t keys u (n ∷ m ∷ []) old new _ h.1 (two_steps n m))
+      subst (Put old new) (sym (same_Some s w e))
+      (looks_put t keys u (n ∷ m ∷ []) old new _ h.1 (two_node_targets_are_two_steps n m))
 
 -- ---- the steps of a word
-module _ (t : Table) (l : Listed) (before list : List ℕ) (ends : List DeadEnd) (u : WordUse) where
+module _ (t : EntryTable) (l : NodeLists) (before list : List ℕ) (ends : List DeadEnd) (u : WordUse) where
   abbrev Written : WordSteps → Type 0
-  Written s = AreWritten t l before list ends (u ∷ []) (s.first ∷ s.second ∷ [])
+  Written s = AreExplorationSteps t l before list ends (u ∷ []) (s.first ∷ s.second ∷ [])
 
-  pub steps_written : (lead : Lead) (s : WordSteps) → IsQueryLead t l.keys u lead
-      → ((m : ℕ) → Contains (numbers lead) m → IsKnown l before list m) → Some s ≡ steps_to lead
-      → AreWritten t l before list ends (u ∷ []) (s.first ∷ s.second ∷ [])
+  pub steps_written : (lead : Lead) (s : WordSteps) → IsLiveQueryLead t l.keys u lead
+      → ((m : ℕ) → Contains (lead_node_numbers lead) m → IsKnownToExploration l before list m)
+      → Some s ≡ node_steps_of_lead lead
+      → AreExplorationSteps t l before list ends (u ∷ []) (s.first ∷ s.second ∷ [])
   steps_written Refused s h known e = cc
   steps_written Nowhere s h known e = cc
   steps_written (One n) s h known e =
@@ -96,11 +102,11 @@ module _ (t : Table) (l : Listed) (before list : List ℕ) (ends : List DeadEnd)
       (known m (member_later m n (m ∷ []) (member_first m m [] refl))))
 
   -- the steps of a word that leads nowhere
-  pub nowhere_written : (more : List DeadEnd) (lead : Lead) (x y : Step) → IsQueryLead t l.keys u lead
-      → None ≡ steps_to lead
-      → more ≡ ends ++ record { text = u.text; is_refused = is_refused_lead lead } ∷ []
+  pub nowhere_written : (more : List DeadEnd) (lead : Lead) (x y : Step) → IsLiveQueryLead t l.keys u lead
+      → None ≡ node_steps_of_lead lead
+      → more ≡ ends ++ record { text = u.text; is_refused = is_refused_node_lead lead } ∷ []
       → x ≡ step.Nowhere (length ends) → y ≡ step.Nowhere (length ends)
-      → AreWritten t l before list more (u ∷ []) (x ∷ y ∷ [])
+      → AreExplorationSteps t l before list more (u ∷ []) (x ∷ y ∷ [])
   nowhere_written more Refused x y h none e p q = refused_written t l before list u ends more x y h e p q
   nowhere_written more Nowhere x y h none e p q = unknown_written t l before list u ends more x y h.0 h.1 e p q
   nowhere_written more (One n) x y h none e p q = cc

@@ -2,31 +2,34 @@
 use Rattle.std.proofs.Common.{◌≡◌, ℕ, Option, None, refl, sym, ap, subst, inl, inr}
 use Rattle.std.specs.Prelude.{Result, Err}
 use Rattle.quantity.specs.Amount.{Amount}
-use Rattle.tree_eval.specs.Steps.{Worth}
+use Rattle.tree_eval.specs.Steps.{ValueOrFault}
 use Rattle.table_names.specs.declared.fault.NameFault.{NameFault}
 use Rattle.live_table.specs.declared.fault.QueryFault.{QueryFault}
 use Rattle.live_table.specs.declared.fault.QueryFault.TheVariants.{Name, Value, OutOfMemory}
-use Rattle.live_table.specs.Answers.{IsQueryResult, by_names}
-use Rattle.live_table.specs.QueryEffects.{IsAsked}
-use Rattle.live_table.specs.Calls.{IsQuery}
-use Rattle.live_table.specs.TableView.{Shown}
-use Rattle.live_table.specs.States.{Event}
+use Rattle.live_table.specs.Answers.{IsLiveQueryResult, live_answer_of_worth}
+use Rattle.live_table.specs.QueryEffects.{IsLiveQueryEffect}
+use Rattle.live_table.specs.Calls.{IsLiveQuery}
+use Rattle.live_table.specs.TableView.{LiveView}
+use Rattle.live_table.specs.States.{LiveEvent}
 
-module _ {A : Type 0} (event : Event) (fault : Option NameFault) (Given : A → Type 0) (before now : Shown)
+module _ {A : Type 0} (event : LiveEvent) (fault : Option NameFault) (Given : A → Type 0) (before now : LiveView)
     (old new : ℕ) where
-  pub fault_answer : (worth : Worth) (q : QueryFault) → IsAsked event fault Given (Err q) before now old new
-      → IsQueryResult (Err q) (by_names fault worth)
-  fault_answer worth (Name f) a = inr (sym (ap (λ (o : Option NameFault). by_names o worth) a.0))
+  pub fault_answer : (worth : ValueOrFault) (q : QueryFault) → IsLiveQueryEffect event fault Given (Err q) before now
+      old new
+      → IsLiveQueryResult (Err q) (live_answer_of_worth fault worth)
+  fault_answer worth (Name f) a = inr (sym (ap (λ (o : Option NameFault). live_answer_of_worth o worth) a.0))
   fault_answer worth (Value v) a = absurd a
   fault_answer worth OutOfMemory a = inl refl
 
-  pub fault_query : (q : QueryFault) → IsAsked event fault Given (Err q) before now old new
-      → IsQuery event (Err q) before now old new
+  pub fault_query : (q : QueryFault) → IsLiveQueryEffect event fault Given (Err q) before now old new
+      → IsLiveQuery event (Err q) before now old new
   fault_query (Name f) a = a.1
   fault_query (Value v) a = absurd a
   fault_query OutOfMemory a = a
 
 -- if there is no name fault, the result of the query is that of the evaluation
-pub worth_answer : (fault : Option NameFault) (worth : Worth) (r : Result Amount QueryFault) → fault ≡ None
-    → IsQueryResult r (by_names None worth) → IsQueryResult r (by_names fault worth)
-worth_answer fault worth r e a = subst (λ (o : Option NameFault). IsQueryResult r (by_names o worth)) (sym e) a
+pub live_answer_without_name_fault : (fault : Option NameFault) (worth : ValueOrFault) (r : Result Amount QueryFault)
+    → fault ≡ None
+    → IsLiveQueryResult r (live_answer_of_worth None worth) → IsLiveQueryResult r (live_answer_of_worth fault worth)
+live_answer_without_name_fault fault worth r e a =
+    subst (λ (o : Option NameFault). IsLiveQueryResult r (live_answer_of_worth o worth)) (sym e) a

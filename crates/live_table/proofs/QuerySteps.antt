@@ -5,60 +5,63 @@ use Rattle.std.specs.List.{slice_get}
 use Rattle.std.proofs.lemmas.Bool.{true≢false}
 use Rattle.std.proofs.lemmas.List.{append_assoc}
 use Rattle.expr_tree.specs.declared.word_list.WordUse.{WordUse}
-use Rattle.def_entry.specs.Tables.{Table}
+use Rattle.def_entry.specs.Tables.{EntryTable}
 use Rattle.name_walk.specs.declared.step.Step.{Step}
 use Rattle.live_table.specs.declared.dead_end.DeadEnd.{DeadEnd}
 use Rattle.live_table.specs.declared.word_targets.Lead.{Lead}
 use Rattle.live_table.specs.declared.word_targets.Lead.TheVariants.{Refused, Nowhere, One, Two}
 use Rattle.live_table.specs.declared.word_steps.WordSteps.{WordSteps}
-use Rattle.live_table.specs.Exploration.{AreAdded, AreListed, AreWritten, IsKnown}
-use Rattle.live_table.specs.WordTargets.{IsQueryLead, is_refused_lead, numbers, steps_to}
-use Rattle.live_table.specs.QueryWords.{AreCutAt, IsDeadEnd}
-use Rattle.live_table.specs.Sound.{AreNumberedNames}
-use Rattle.live_table.specs.TableContents.{Listed}
-use Rattle.live_table.proofs.AddedNames.{added_both, grown_none, written_more}
+use Rattle.live_table.specs.Exploration.{AreExplorationSteps, AreNodesAdded, IsExplorationAgenda, IsKnownToExploration}
+use Rattle.live_table.specs.WordTargets.{IsLiveQueryLead, is_refused_node_lead, lead_node_numbers, node_steps_of_lead}
+use Rattle.live_table.specs.QueryWords.{AreExplorationStepsCutAt, IsExplorationDeadEnd}
+use Rattle.live_table.specs.Sound.{AreSoundNodes}
+use Rattle.live_table.specs.TableContents.{NodeLists}
+use Rattle.live_table.proofs.AddedNames.{nodes_are_growth_of_themselves, two_node_additions_are_one, written_more}
 use Rattle.live_table.proofs.LeadSteps.{steps_written}
-use Rattle.live_table.proofs.WrittenSteps.{written_behind}
+use Rattle.live_table.proofs.WrittenSteps.{exploration_steps_after_others}
 use Rattle.general_lemmas.proofs.Places.{take_at}
 
 -- ---- the state of the loop over words
-pub record IsStepping (t : Table) (old now : Listed) (before here list : List ℕ) (us : List WordUse) (xs : List Step)
+pub record IsStepping (t : EntryTable) (old now : NodeLists) (before here list : List ℕ) (us : List WordUse)
+    (xs : List Step)
     (i : ℕ) : Type 0 where
-  pub added : (ends : List DeadEnd) → AreAdded t old now before here list ends ends
-  pub written : AreWritten t now before list [] (take i us) xs
+  pub added : (ends : List DeadEnd) → AreNodesAdded t old now before here list ends ends
+  pub written : AreExplorationSteps t now before list [] (take i us) xs
 
 -- a turn of the loop: one more word was looked up, and its targets were put on the agenda
-pub record IsTurn (t : Table) (old now m : Listed) (before here list there : List ℕ) (us : List WordUse)
+pub record IsTurn (t : EntryTable) (old now m : NodeLists) (before here list there : List ℕ) (us : List WordUse)
     (xs : List Step) (i : ℕ) (u : WordUse) : Type 0 where
   pub word : slice_get us i ≡ Some u
   pub start : IsStepping t old now before here list us xs i
-  pub led : (ends : List DeadEnd) → AreAdded t now m before list list ends ends
-  pub put : (ends : List DeadEnd) → AreAdded t m m before list there ends ends
+  pub led : (ends : List DeadEnd) → AreNodesAdded t now m before list list ends ends
+  pub put : (ends : List DeadEnd) → AreNodesAdded t m m before list there ends ends
 
-module _ (t : Table) (old now m : Listed) (before here list there : List ℕ) (us : List WordUse) (xs : List Step)
+module _ (t : EntryTable) (old now m : NodeLists) (before here list there : List ℕ) (us : List WordUse) (xs : List Step)
     (i : ℕ) (u : WordUse) (turn : IsTurn t old now m before here list there us xs i u) where
-  then : (ends : List DeadEnd) → AreAdded t now m before list there ends ends
-  then ends = added_both t now m m before list list there ends ends ends (turn.led ends) (turn.put ends)
+  then : (ends : List DeadEnd) → AreNodesAdded t now m before list there ends ends
+  then ends = two_node_additions_are_one t now m m before list list there ends ends ends (turn.led ends) (turn.put ends)
 
   -- names are added to those before the loop
-  pub stepped_added : (ends : List DeadEnd) → AreAdded t old m before here there ends ends
-  stepped_added ends = added_both t old now m before here list there ends ends ends (turn.start.added ends) (then ends)
+  pub stepped_added : (ends : List DeadEnd) → AreNodesAdded t old m before here there ends ends
+  stepped_added ends = two_node_additions_are_one t old now m before here list there ends ends ends
+      (turn.start.added ends) (then ends)
 
-  front : AreWritten t m before there [] (take i us) xs
+  front : AreExplorationSteps t m before there [] (take i us) xs
   front =
       written_more t now m before list there [] [] (turn.start.added []).growth.nodes
       (turn.start.added []).growth.list_right (then []).growth (take i us) xs turn.start.written
 
-  module _ (lead : Lead) (is : IsQueryLead t m.keys u lead) where
+  module _ (lead : Lead) (is : IsLiveQueryLead t m.keys u lead) where
     -- the steps of the word are appended
-    pub stepping_next : ((n : ℕ) → Contains (numbers lead) n → IsKnown m before there n) → (w : WordSteps)
-        → Some w ≡ steps_to lead → (ys zs : List Step) → ys ≡ xs ++ w.first ∷ [] → zs ≡ ys ++ w.second ∷ []
+    pub stepping_next : ((n : ℕ) → Contains (lead_node_numbers lead) n → IsKnownToExploration m before there n)
+        → (w : WordSteps)
+        → Some w ≡ node_steps_of_lead lead → (ys zs : List Step) → ys ≡ xs ++ w.first ∷ [] → zs ≡ ys ++ w.second ∷ []
         → IsStepping t old m before here there us zs (i + 1)
     stepping_next known w e ys zs a b = record {
       added = stepped_added;
-      written = subst (λ (p : List WordUse × List Step). AreWritten t m before there [] p.0 p.1)
+      written = subst (λ (p : List WordUse × List Step). AreExplorationSteps t m before there [] p.0 p.1)
           (λ j. (sym (take_at us i u turn.word) j, sym all j))
-          (written_behind t m before there [] (take i us) (u ∷ []) xs (w.first ∷ w.second ∷ []) front
+          (exploration_steps_after_others t m before there [] (take i us) (u ∷ []) xs (w.first ∷ w.second ∷ []) front
           (steps_written t m before there [] u lead w is known e));
     }
       where
@@ -66,8 +69,9 @@ module _ (t : Table) (old now m : Listed) (before here list there : List ℕ) (u
         all = b ∙ (ap (λ (qs : List Step). qs ++ w.second ∷ []) a ∙ append_assoc xs (w.first ∷ []) (w.second ∷ []))
 
     -- or the word leads nowhere
-    pub stepping_cut : None ≡ steps_to lead → (end : DeadEnd)
-        → end ≡ record { text = u.text; is_refused = is_refused_lead lead } → AreCutAt t m before there us xs end
+    pub stepping_cut : None ≡ node_steps_of_lead lead → (end : DeadEnd)
+        → end ≡ record { text = u.text; is_refused = is_refused_node_lead lead }
+        → AreExplorationStepsCutAt t m before there us xs end
     stepping_cut none end e = record {
       words_before = take i us;
       word = u;
@@ -82,8 +86,8 @@ module _ (t : Table) (old now m : Listed) (before here list there : List ℕ) (u
         parts (v ∷ vs) zero q = let f : v ≡ u = cc in ap (λ (x : WordUse). x ∷ vs) f
         parts (v ∷ vs) (suc j) q = ap (λ (ws : List WordUse). v ∷ ws) (parts vs j q)
 
-        dead : (x : Lead) → IsQueryLead t m.keys u x → None ≡ steps_to x
-            → end ≡ record { text = u.text; is_refused = is_refused_lead x } → IsDeadEnd t u end
+        dead : (x : Lead) → IsLiveQueryLead t m.keys u x → None ≡ node_steps_of_lead x
+            → end ≡ record { text = u.text; is_refused = is_refused_node_lead x } → IsExplorationDeadEnd t u end
         dead Refused h n q = record {
           text = ap (λ (d : DeadEnd). d.text) q;
           refused_word = ap (λ (d : DeadEnd). d.is_refused) q ∙ sym h;
@@ -98,10 +102,11 @@ module _ (t : Table) (old now m : Listed) (before here list there : List ℕ) (u
         dead (Two p r) h n q = cc
 
 -- ---- steps that all lead somewhere mean the same whatever the dead ends
-pub written_led : (t : Table) (l : Listed) (before list : List ℕ) (ends : List DeadEnd) (us : List WordUse)
+pub leading_exploration_steps_stay : (t : EntryTable) (l : NodeLists) (before list : List ℕ) (ends : List DeadEnd)
+    (us : List WordUse)
     (xs : List Step)
-    → AreNumberedNames t l → AreListed t l before list → AreWritten t l before list [] us xs
-    → AreWritten t l before list ends us xs
-written_led t l before list ends us xs nodes right w =
+    → AreSoundNodes t l → IsExplorationAgenda t l before list → AreExplorationSteps t l before list [] us xs
+    → AreExplorationSteps t l before list ends us xs
+leading_exploration_steps_stay t l before list ends us xs nodes right w =
     written_more t l l before list list [] ends nodes right
-    (grown_none t l before list [] ends nodes right (λ i x e. cc)) us xs w
+    (nodes_are_growth_of_themselves t l before list [] ends nodes right (λ i x e. cc)) us xs w

@@ -1,42 +1,44 @@
 -- The nodes and edges that are left after keys have changed.
 use Rattle.std.specs.Prelude.{◌≡◌, ◌<◌, ◌≤◌, ℕ, List, Some, length, slice_get, Contains}
 use Rattle.def_entry.specs.declared.key.Key.{Key}
-use Rattle.def_entry.specs.Tables.{Table, is_present}
+use Rattle.def_entry.specs.Tables.{EntryTable, is_entry_present}
 use Rattle.edge_links.specs.Reach.{AreMarksCleared}
-use Rattle.name_edges.specs.AffectedNames.{AreAffected, ForgetsNames}
-use Rattle.name_edges.specs.NameGraphs.{NameGraph}
-use Rattle.name_numbers.specs.EdgeLaws.{AreNumbersOf}
-use Rattle.live_table.specs.TableEdges.{is_flagged}
-use Rattle.live_table.specs.OutcomesLeft.{AreNumbersLeft}
-use Rattle.live_table.specs.TableContents.{Listed, key_at}
+use Rattle.name_edges.specs.AffectedNames.{AreAffectedByEdges, ForgetsNameEdges}
+use Rattle.name_edges.specs.NameGraphs.{NameEdgeGraph}
+use Rattle.name_numbers.specs.EdgeLaws.{AreNumbersOfNames}
+use Rattle.live_table.specs.TableEdges.{is_flagged_settled}
+use Rattle.live_table.specs.OutcomesLeft.{AreSettledNumbersLeft}
+use Rattle.live_table.specs.TableContents.{NodeLists, node_key_at}
 
 -- the flags say of the changed keys whether they have an entry now
-pub record AreFlaggedAnew (t : Table) (keys : List Key) (l m : Listed) : Type 0 where
+pub record AreNodesFlaggedAnew (t : EntryTable) (keys : List Key) (l m : NodeLists) : Type 0 where
   pub flag_count : length m.entry_flags ≡ length l.entry_flags
-  pub changed_flags : (n : ℕ) → n < length l.keys → Contains keys (key_at l.keys n)
-      → slice_get m.entry_flags n ≡ Some (is_present t (key_at l.keys n))
-  pub other_flags : (n : ℕ) → n < length l.keys → (Contains keys (key_at l.keys n) → ⊥)
+  pub changed_flags : (n : ℕ) → n < length l.keys → Contains keys (node_key_at l.keys n)
+      → slice_get m.entry_flags n ≡ Some (is_entry_present t (node_key_at l.keys n))
+  pub other_flags : (n : ℕ) → n < length l.keys → (Contains keys (node_key_at l.keys n) → ⊥)
       → slice_get m.entry_flags n ≡ slice_get l.entry_flags n
 
 -- the parts of the nodes that do not change
-pub record IsRest (l m : Listed) : Type 0 where
+pub record AreNodePartsUnchanged (l m : NodeLists) : Type 0 where
   pub keys : m.keys ≡ l.keys
   pub callees : m.callees ≡ l.callees
   pub graph : m.graph ≡ l.graph
   pub looks : m.looks ≡ l.looks
 
 -- the names that a change of these keys affects are forgotten, and no others
-pub record AreForgotten (t : Table) (keys : List Key) (l m : Listed) (g h : NameGraph) : Type 0 where
+pub record AreForgotten (t : EntryTable) (keys : List Key) (l m : NodeLists) (g h : NameEdgeGraph) : Type 0 where
   pub numbers : List ℕ
-  pub of : AreNumbersOf (key_at l.keys) g.names keys numbers
-  pub edges : ForgetsNames (AreAffected g numbers) g h
-  pub marks_cleared : AreMarksCleared (AreAffected g numbers) (is_flagged l.settled_flags) (is_flagged m.settled_flags)
-  pub numbers_left : AreNumbersLeft l.settled_flags m.settled_flags l.count m.count l.outcomes m.outcomes
-  pub flags_anew : AreFlaggedAnew t keys l m
-  pub rest_same : IsRest l m
+  pub of : AreNumbersOfNames (node_key_at l.keys) g.names keys numbers
+  pub edges : ForgetsNameEdges (AreAffectedByEdges g numbers) g h
+  pub marks_cleared : AreMarksCleared (AreAffectedByEdges g numbers) (is_flagged_settled l.settled_flags)
+      (is_flagged_settled m.settled_flags)
+  pub numbers_left : AreSettledNumbersLeft l.settled_flags m.settled_flags l.count m.count l.outcomes m.outcomes
+  pub flags_anew : AreNodesFlaggedAnew t keys l m
+  pub rest_same : AreNodePartsUnchanged l m
 
 -- the precondition of forgetting: keys of different numbers differ, each has a flag, and no edge leads beyond them
-pub record CanForget (l : Listed) (g : NameGraph) : Type 0 where
-  pub numbers_apart : (n m : ℕ) → n < length l.keys → m < length l.keys → key_at l.keys n ≡ key_at l.keys m → n ≡ m
+pub record CanForget (l : NodeLists) (g : NameEdgeGraph) : Type 0 where
+  pub numbers_apart : (n m : ℕ) → n < length l.keys → m < length l.keys → node_key_at l.keys n ≡ node_key_at l.keys m
+      → n ≡ m
   pub flag_per_key : length l.entry_flags ≡ length l.keys
   pub names : g.names ≤ length l.keys

@@ -1,8 +1,8 @@
 //! Words that lead nowhere.
 
 ghost use Rattle.std.specs.Prelude.{◌≡◌, IfOk};
-ghost use Rattle.live_table.specs.WordTargets.{is_refused_lead};
-ghost use Rattle.live_table.specs.ExploredNames.{dead_end_fault};
+ghost use Rattle.live_table.specs.WordTargets.{is_refused_node_lead};
+ghost use Rattle.live_table.specs.ExploredNames.{explored_dead_end_fault};
 ghost use Rattle.std.specs.Option.{option_copied};
 
 use crate::word_targets::Lead;
@@ -22,7 +22,7 @@ pub(crate) struct DeadEnd {
 impl DeadEnd {
     /// Creates the dead end of a word from its lead. The only error is lack of memory.
     pub(crate) fn new(alloc: Global, u: &WordUse<'_>, lead: Lead) -> Result<DeadEnd, AllocError>
-        ensures { IfOk result (λ end. end ≡ record { text = u.now.text; is_refused = is_refused_lead lead }) }
+        ensures { IfOk result (λ end. end ≡ record { text = u.now.text; is_refused = is_refused_node_lead lead }) }
     {
         let text = Text::from_bytes(alloc, u.text())?;
         let is_refused = matches!(lead, Lead::Refused);
@@ -32,7 +32,7 @@ impl DeadEnd {
     /// Returns the fault of the word in the entry of a key, or in the queried expression if `holder` is `None`. The
     /// only error is lack of memory.
     pub(crate) fn fault(&self, alloc: Global, holder: Option<Key>) -> Result<NameFault, AllocError>
-        ensures { IfOk result (λ fault. fault ≡ dead_end_fault (Some self.now) holder) }
+        ensures { IfOk result (λ fault. fault ≡ explored_dead_end_fault (Some self.now) holder) }
     {
         let text = self.text.copy(alloc)?;
         if self.is_refused {

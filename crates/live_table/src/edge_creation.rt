@@ -1,9 +1,9 @@
 //! Creates the edges of settled names when an edit needs them.
 
 ghost use Rattle.std.specs.Prelude.{◌≡◌, ◌⊎◌, ◌↔◌, ◌<◌, ◌∷◌, [], ℕ, List, OnErr, OnOk, Contains};
-ghost use Rattle.name_walk.specs.ClosedNames.{IsSettled};
-ghost use Rattle.live_table.specs.TableEdges.{HasLateEdges};
-ghost use Rattle.live_table.specs.Sound.{IsSound};
+ghost use Rattle.name_walk.specs.ClosedNames.{IsSettledInGraph};
+ghost use Rattle.live_table.specs.TableEdges.{HasLateSettledEdges};
+ghost use Rattle.live_table.specs.Sound.{IsSoundLiveTable};
 ghost use Rattle.live_table.specs.TableContents.{node_lists};
 
 use crate::late_edges::LateEdges;
@@ -22,9 +22,9 @@ pub(crate) fn link_waiting(
     nodes: &Nodes,
     edges: &mut LateEdges,
 ) -> Result<(), AllocError>
-    requires sound { (reductions : ℕ) × IsSound deck.now (node_lists nodes.now) reductions }
-    requires edges { HasLateEdges deck.now (node_lists nodes.now) edges.old.waiting.items edges.old.made }
-    ensures edges { HasLateEdges deck.now (node_lists nodes.now) edges.new.waiting.items edges.new.made }
+    requires sound { (reductions : ℕ) × IsSoundLiveTable deck.now (node_lists nodes.now) reductions }
+    requires edges { HasLateSettledEdges deck.now (node_lists nodes.now) edges.old.waiting.items edges.old.made }
+    ensures edges { HasLateSettledEdges deck.now (node_lists nodes.now) edges.new.waiting.items edges.new.made }
     ensures all { OnOk result (edges.new.waiting.items ≡ []) }
 {
     while let Some(n) = edges.waiting.front() {
@@ -44,12 +44,13 @@ fn link(
     targets: &mut Worklist,
     n: usize,
 ) -> Result<(), AllocError>
-    requires sound { (reductions : ℕ) × IsSound deck.now (node_lists nodes.now) reductions }
-    requires settled { IsSettled (node_lists nodes.now).settled_flags n }
-    ensures ok { OnOk result ((rest : List ℕ) → HasLateEdges deck.now (node_lists nodes.now) (n ∷ rest) made.old
-        → HasLateEdges deck.now (node_lists nodes.now) rest made.new) }
-    ensures err { OnErr result ((waiting : List ℕ) → HasLateEdges deck.now (node_lists nodes.now) waiting made.old
-        → HasLateEdges deck.now (node_lists nodes.now) waiting made.new) }
+    requires sound { (reductions : ℕ) × IsSoundLiveTable deck.now (node_lists nodes.now) reductions }
+    requires settled { IsSettledInGraph (node_lists nodes.now).settled_flags n }
+    ensures ok { OnOk result ((rest : List ℕ) → HasLateSettledEdges deck.now (node_lists nodes.now) (n ∷ rest) made.old
+        → HasLateSettledEdges deck.now (node_lists nodes.now) rest made.new) }
+    ensures err { OnErr result
+        ((waiting : List ℕ) → HasLateSettledEdges deck.now (node_lists nodes.now) waiting made.old
+        → HasLateSettledEdges deck.now (node_lists nodes.now) waiting made.new) }
 {
     linking_law();
     let count = nodes.keys.len();

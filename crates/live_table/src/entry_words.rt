@@ -5,10 +5,10 @@ ghost use Rattle.std.specs.Option.{option_copied};
 ghost use Rattle.expr_tree.specs.Trees.{syntax};
 ghost use Rattle.expr_tree.specs.Words.{words_in};
 ghost use Rattle.def_entry.specs.Entries.{Function};
-ghost use Rattle.def_entry.specs.Views.{function_view, what_view};
-ghost use Rattle.tree_eval.specs.Entries.{words_if};
-ghost use Rattle.tree_eval.specs.Expansion.{inverted_word};
-ghost use Rattle.live_table.specs.Callees.{AreEntryWords};
+ghost use Rattle.def_entry.specs.Views.{entry_definition_view, function_entry_view};
+ghost use Rattle.tree_eval.specs.Entries.{eval_tree_words_if};
+ghost use Rattle.tree_eval.specs.Expansion.{inverted_eval_word};
+ghost use Rattle.live_table.specs.Callees.{AreNodeEntryWords};
 
 use crate::callee::PartStarts;
 use def_entry::{FunctionDef, What};
@@ -23,7 +23,7 @@ pub(crate) fn write_entry_words<'a>(
     words: &mut Words<'a>,
     what: &'a What,
 ) -> Result<PartStarts, AllocError>
-    ensures { IfOk result (λ starts. AreEntryWords (what_view what.now) words.new starts) }
+    ensures { IfOk result (λ starts. AreNodeEntryWords (entry_definition_view what.now) words.new starts) }
 {
     words.clear();
     match what {
@@ -65,7 +65,7 @@ fn put_alias<'a>(
     words: &mut Words<'a>,
     target: &'a Text,
 ) -> Result<PartStarts, AllocError>
-    ensures words { IfOk result (λ _. words.new ≡ words.old ++ inverted_word target.now ∷ []) }
+    ensures words { IfOk result (λ _. words.new ≡ words.old ++ inverted_eval_word target.now ∷ []) }
     ensures starts { IfOk result (λ starts. starts ≡ record { out_unit = 0; forward = 0; inverse = 0 }) }
 {
     words.push(alloc, WordUse::new(target.as_bytes(), WordKind::Inverse))?;
@@ -79,7 +79,7 @@ fn put_function<'a>(
     function: &'a FunctionDef,
 ) -> Result<PartStarts, AllocError>
     requires { words.old ≡ [] }
-    ensures { IfOk result (λ starts. AreEntryWords (Function (function_view function.now)) words.new starts) }
+    ensures { IfOk result (λ starts. AreNodeEntryWords (Function (function_entry_view function.now)) words.new starts) }
 {
     put_words_if(alloc, words, function.in_unit.as_ref())?;
     let out_unit = start_of(words.len())?;
@@ -111,7 +111,7 @@ fn put_words_if<'a>(
     words: &mut Words<'a>,
     tree: Option<&'a Tree>,
 ) -> Result<(), AllocError>
-    ensures { OnOk result (words.new ≡ words.old ++ words_if (option_map syntax (option_copied tree.entry))) }
+    ensures { OnOk result (words.new ≡ words.old ++ eval_tree_words_if (option_map syntax (option_copied tree.entry))) }
 {
     match tree {
         Some(tree) => put_words(alloc, words, tree),

@@ -4,15 +4,15 @@ ghost use Rattle.std.specs.Prelude.{◌≡◌, ℕ, None};
 ghost use Rattle.expr_tree.specs.Trees.{syntax};
 ghost use Rattle.expr_tree.specs.Words.{words_in};
 ghost use Rattle.def_entry.specs.declared.key.Kind.TheVariants as kind;
-ghost use Rattle.name_walk.specs.ClosedNames.{IsSettled};
-ghost use Rattle.deck.specs.Tables.{table};
+ghost use Rattle.name_walk.specs.ClosedNames.{IsSettledInGraph};
+ghost use Rattle.deck.specs.Tables.{table_of_deck};
 ghost use Rattle.tree_eval.specs.Answers as eval_spec;
-ghost use Rattle.tree_eval.specs.Steps.{Worth};
+ghost use Rattle.tree_eval.specs.Steps.{ValueOrFault};
 ghost use Rattle.tree_eval.specs.Value.{value};
 ghost use Rattle.table_names.specs.Meanings.{expansion, key_meaning};
-ghost use Rattle.live_table.specs.Answers.{IsQueryResult, by_names, inverse_at};
-ghost use Rattle.live_table.specs.Sound.{IsSound};
-ghost use Rattle.live_table.specs.TableContents.{key_at, node_lists};
+ghost use Rattle.live_table.specs.Answers.{IsLiveQueryResult, live_answer_of_worth, live_inverse_worth};
+ghost use Rattle.live_table.specs.Sound.{IsSoundLiveTable};
+ghost use Rattle.live_table.specs.TableContents.{node_key_at, node_lists};
 ghost use Rattle.live_table.specs.EvalInvariants.{AreSettledWords};
 
 use crate::fault::QueryFault;
@@ -34,10 +34,11 @@ pub(crate) fn evaluate_tree<'a, 'w>(
     words: &'a Words<'w>,
     query: &'a [Step],
 ) -> Result<Quantity, QueryFault>
-    requires sound { (reductions : ℕ) × IsSound deck.now (node_lists nodes.now) reductions }
+    requires sound { (reductions : ℕ) × IsSoundLiveTable deck.now (node_lists nodes.now) reductions }
     requires words { words.now ≡ words_in (syntax tree.now) }
-    requires settled { AreSettledWords (table deck.now) (node_lists nodes.now) words.now query.now }
-    ensures { IsQueryResult result (by_names None (value (expansion (table deck.now) (syntax tree.now)) None)) }
+    requires settled { AreSettledWords (table_of_deck deck.now) (node_lists nodes.now) words.now query.now }
+    ensures { IsLiveQueryResult result
+        (live_answer_of_worth None (value (expansion (table_of_deck deck.now) (syntax tree.now)) None)) }
 {
     let surroundings = Surroundings {
         deck,
@@ -55,11 +56,12 @@ pub(crate) fn evaluate_inverse<'a>(
     n: usize,
     value: &Quantity,
 ) -> Result<Quantity, QueryFault>
-    requires sound { (reductions : ℕ) × IsSound deck.now (node_lists nodes.now) reductions }
-    requires settled { IsSettled (node_lists nodes.now).settled_flags n }
-    requires function { (key_at nodes.now.keys n).kind ≡ kind.Func }
-    ensures { IsQueryResult result
-        (by_names None (inverse_at (key_meaning (table deck.now) (key_at nodes.now.keys n)) value.now)) }
+    requires sound { (reductions : ℕ) × IsSoundLiveTable deck.now (node_lists nodes.now) reductions }
+    requires settled { IsSettledInGraph (node_lists nodes.now).settled_flags n }
+    requires function { (node_key_at nodes.now.keys n).kind ≡ kind.Func }
+    ensures { IsLiveQueryResult result
+        (live_answer_of_worth None
+        (live_inverse_worth (key_meaning (table_of_deck deck.now) (node_key_at nodes.now.keys n)) value.now)) }
 {
     let surroundings = Surroundings {
         deck,
@@ -71,8 +73,8 @@ pub(crate) fn evaluate_inverse<'a>(
 
 // Converts the result of an evaluation into the result of a query.
 fn query_result(worth: Result<Quantity, EvalFault>) -> Result<Quantity, QueryFault>
-    ensures { (expected : Worth) → eval_spec.IsEvalResult worth expected
-        → IsQueryResult result (by_names None expected) }
+    ensures { (expected : ValueOrFault) → eval_spec.IsEvalResult worth expected
+        → IsLiveQueryResult result (live_answer_of_worth None expected) }
 {
     match worth {
         Ok(q) => Ok(q),

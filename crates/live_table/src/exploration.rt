@@ -1,13 +1,14 @@
 //! Assigns numbers and steps to all names below a query.
 
 ghost use Rattle.std.specs.Prelude.{◌≡◌, IfOk, Contains};
-ghost use Rattle.def_entry.specs.Views.{what_view};
-ghost use Rattle.deck.specs.Tables.{table};
-ghost use Rattle.live_table.specs.Exploration.{AreAllExplored, AreGrown, AreListed, AreSame, HasOwnSteps, WereExplored};
-ghost use Rattle.live_table.specs.KnownFaults.{HaveSameSteps};
-ghost use Rattle.live_table.specs.FoundDefinitions.{AreFoundByNumber, HasEntry};
-ghost use Rattle.live_table.specs.Sound.{AreNumberedNames};
-ghost use Rattle.live_table.specs.TableContents.{key_at, node_lists};
+ghost use Rattle.def_entry.specs.Views.{entry_definition_view};
+ghost use Rattle.deck.specs.Tables.{table_of_deck};
+ghost use Rattle.live_table.specs.Exploration.{AreAllExplored, AreNodesGrown, AreOtherNodesSame};
+ghost use Rattle.live_table.specs.Exploration.{HasOwnExplorationSteps, IsExplorationAgenda, WereExplored};
+ghost use Rattle.live_table.specs.KnownFaults.{HaveSameNodeSteps};
+ghost use Rattle.live_table.specs.FoundDefinitions.{AreNodeDefinitionsFound, HasLiveEntry};
+ghost use Rattle.live_table.specs.Sound.{AreSoundNodes};
+ghost use Rattle.live_table.specs.TableContents.{node_key_at, node_lists};
 
 use crate::dead_end::DeadEnd;
 use crate::entry_words::write_entry_words;
@@ -36,16 +37,18 @@ pub(crate) fn explore<'a>(
     dead_ends: &mut Vec<DeadEnd>,
     tried: &mut TriedKeys,
 ) -> Result<Vec<&'a What>, AllocError>
-    requires nodes { AreNumberedNames (table deck.now) (node_lists nodes.old) }
-    requires listed { AreListed (table deck.now) (node_lists nodes.old) explored.now worklist.old }
-    requires before { WereExplored (table deck.now) (node_lists nodes.old) explored.now dead_ends.old.items }
-    ensures grown { AreGrown (table deck.now) (node_lists nodes.old) (node_lists nodes.new) explored.now
+    requires nodes { AreSoundNodes (table_of_deck deck.now) (node_lists nodes.old) }
+    requires listed { IsExplorationAgenda (table_of_deck deck.now) (node_lists nodes.old) explored.now worklist.old }
+    requires before { WereExplored (table_of_deck deck.now) (node_lists nodes.old) explored.now dead_ends.old.items }
+    ensures grown { AreNodesGrown (table_of_deck deck.now) (node_lists nodes.old) (node_lists nodes.new) explored.now
         worklist.old worklist.new dead_ends.old.items dead_ends.new.items }
-    ensures before { WereExplored (table deck.now) (node_lists nodes.new) explored.now dead_ends.new.items }
-    ensures stay { HaveSameSteps explored.now (node_lists nodes.old) (node_lists nodes.new) }
-    ensures all { IfOk result (λ _. AreAllExplored (table deck.now) (node_lists nodes.new) explored.now worklist.new
+    ensures before { WereExplored (table_of_deck deck.now) (node_lists nodes.new) explored.now dead_ends.new.items }
+    ensures stay { HaveSameNodeSteps explored.now (node_lists nodes.old) (node_lists nodes.new) }
+    ensures all { IfOk result
+        (λ _. AreAllExplored (table_of_deck deck.now) (node_lists nodes.new) explored.now worklist.new
         dead_ends.new.items) }
-    ensures found { IfOk result (λ found. AreFoundByNumber (table deck.now) nodes.new.keys worklist.new found.items) }
+    ensures found { IfOk result
+        (λ found. AreNodeDefinitionsFound (table_of_deck deck.now) nodes.new.keys worklist.new found.items) }
 {
     let mut words = Words::new(alloc);
     let mut found = Vec::new(alloc);
@@ -76,14 +79,16 @@ fn explore_name<'a>(
     n: usize,
     what: &'a What,
 ) -> Result<(), AllocError>
-    requires nodes { AreNumberedNames (table deck.now) (node_lists nodes.old) }
-    requires listed { AreListed (table deck.now) (node_lists nodes.old) explored.now worklist.old }
+    requires nodes { AreSoundNodes (table_of_deck deck.now) (node_lists nodes.old) }
+    requires listed { IsExplorationAgenda (table_of_deck deck.now) (node_lists nodes.old) explored.now worklist.old }
     requires name { Contains worklist.old n }
-    requires what { HasEntry (table deck.now) (key_at nodes.old.keys n) (what_view what.now) }
-    ensures grown { AreGrown (table deck.now) (node_lists nodes.old) (node_lists nodes.new) explored.now
+    requires what { HasLiveEntry (table_of_deck deck.now) (node_key_at nodes.old.keys n)
+        (entry_definition_view what.now) }
+    ensures grown { AreNodesGrown (table_of_deck deck.now) (node_lists nodes.old) (node_lists nodes.new) explored.now
         worklist.old worklist.new dead_ends.old.items dead_ends.new.items }
-    ensures same { AreSame (λ m. m ≡ n → ⊥) (node_lists nodes.old) (node_lists nodes.new) }
-    ensures written { IfOk result (λ _. HasOwnSteps (table deck.now) (node_lists nodes.new) explored.now worklist.new
+    ensures same { AreOtherNodesSame (λ m. m ≡ n → ⊥) (node_lists nodes.old) (node_lists nodes.new) }
+    ensures written { IfOk result
+        (λ _. HasOwnExplorationSteps (table_of_deck deck.now) (node_lists nodes.new) explored.now worklist.new
         dead_ends.new.items n) }
 {
     let starts = write_entry_words(alloc, words, what)?;

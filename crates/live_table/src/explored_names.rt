@@ -1,7 +1,7 @@
 //! The names explored since the last edit.
 
 ghost use Rattle.std.specs.Prelude.{◌≡◌, ◌⊎◌, ◌↔◌, ◌<◌, [], ℕ, OnErr, OnOk, Contains};
-ghost use Rattle.name_walk.specs.Findings.{IsNothing};
+ghost use Rattle.name_walk.specs.Findings.{AreNoWalkFindings};
 
 use crate::dead_end::DeadEnd;
 use crate::worklist::Worklist;
@@ -22,7 +22,7 @@ impl Explored {
     pub(crate) fn new(alloc: Global) -> Explored
         ensures names { result.names ≡ [] }
         ensures dead_ends { result.dead_ends.items ≡ [] }
-        ensures findings { IsNothing result.findings }
+        ensures findings { AreNoWalkFindings result.findings }
     {
         Explored {
             names: Worklist::new(alloc),
@@ -35,7 +35,7 @@ impl Explored {
     pub(crate) fn clear(&mut self, alloc: Global)
         ensures names { self.new.names ≡ [] }
         ensures dead_ends { self.new.dead_ends.items ≡ [] }
-        ensures findings { IsNothing self.new.findings }
+        ensures findings { AreNoWalkFindings self.new.findings }
     {
         self.names.clear();
         self.dead_ends.clear();
@@ -55,7 +55,7 @@ impl Explored {
             ↔ (Contains self.old.names m ⊎ Contains worklist.now m)) }
         ensures kept { OnOk result (self.new.findings ≡ self.old.findings) }
         ensures err { OnErr result (self.new.names ≡ []) }
-        ensures none { OnErr result (IsNothing self.new.findings) }
+        ensures none { OnErr result (AreNoWalkFindings self.new.findings) }
         ensures dead_ends { self.new.dead_ends.items ≡ self.old.dead_ends.items }
     {
         let put = self.names.put_all(worklist.as_slice(), end);

@@ -1,11 +1,11 @@
 //! Converts name faults by number into faults by name.
 
 ghost use Rattle.std.specs.Prelude.{◌≡◌, IfOk, map};
-ghost use Rattle.def_entry.specs.Tables.{Table};
-ghost use Rattle.name_walk.specs.Walks.{fault_view};
+ghost use Rattle.def_entry.specs.Tables.{EntryTable};
+ghost use Rattle.name_walk.specs.Walks.{walk_fault_view};
 ghost use Rattle.name_numbers.specs.NumberedNames.{fault_by_name};
-ghost use Rattle.live_table.specs.ExploredNames.{fault_at};
-ghost use Rattle.live_table.specs.TableContents.{key_at};
+ghost use Rattle.live_table.specs.ExploredNames.{explored_fault_at};
+ghost use Rattle.live_table.specs.TableContents.{node_key_at};
 
 use crate::dead_end::DeadEnd;
 use crate::key_index::KeyIndex;
@@ -22,8 +22,9 @@ pub(crate) fn named_fault(
     dead_ends: &[DeadEnd],
     fault: &Fault,
 ) -> Result<NameFault, AllocError>
-    ensures { IfOk result (λ f. (table : Table)
-        → f ≡ fault_by_name table (key_at keys.now) (fault_at dead_ends.now) (fault_view fault.now)) }
+    ensures { IfOk result (λ f. (table : EntryTable)
+        → f ≡ fault_by_name table (node_key_at keys.now) (explored_fault_at dead_ends.now)
+        (walk_fault_view fault.now)) }
 {
     match fault {
         Fault::DeadEnd(place, None) => dead_end_fault(alloc, dead_ends, *place, None),
@@ -42,7 +43,7 @@ fn dead_end_fault(
     place: usize,
     holder: Option<Key>,
 ) -> Result<NameFault, AllocError>
-    ensures { IfOk result (λ f. f ≡ fault_at dead_ends.now place holder) }
+    ensures { IfOk result (λ f. f ≡ explored_fault_at dead_ends.now place holder) }
 {
     match dead_ends.get(place) {
         Some(dead_end) => dead_end.fault(alloc, holder),
@@ -52,7 +53,7 @@ fn dead_end_fault(
 
 // Returns the keys of numbers.
 fn keys_of(alloc: Global, keys: &KeyIndex, names: &[usize]) -> Result<Keys, AllocError>
-    ensures { IfOk result (λ list. list ≡ map (key_at keys.now) names.now) }
+    ensures { IfOk result (λ list. list ≡ map (node_key_at keys.now) names.now) }
 {
     let mut list = Keys::new(alloc);
     for n in names {

@@ -1,12 +1,12 @@
 //! Searching for the first fault of a query.
 
 ghost use Rattle.std.specs.Prelude.{◌≡◌, IfOk};
-ghost use Rattle.deck.specs.Tables.{table};
-ghost use Rattle.name_numbers.specs.NumberedNames.{LeadToKnown};
-ghost use Rattle.name_walk.specs.Findings.{IsFirstFaulty};
-ghost use Rattle.live_table.specs.Exploration.{AreAllExplored, WereExplored, is_known};
-ghost use Rattle.live_table.specs.KnownFaults.{AreFaultsKnown, IsFirstFault};
-ghost use Rattle.live_table.specs.Sound.{AreNumberedNames};
+ghost use Rattle.deck.specs.Tables.{table_of_deck};
+ghost use Rattle.name_numbers.specs.NumberedNames.{LeadToKnownNumbers};
+ghost use Rattle.name_walk.specs.Findings.{IsFirstFaultyWalkStep};
+ghost use Rattle.live_table.specs.Exploration.{AreAllExplored, WereExplored, is_known_to_exploration};
+ghost use Rattle.live_table.specs.KnownFaults.{AreExploredFaultsKnown, IsFirstExploredFault};
+ghost use Rattle.live_table.specs.Sound.{AreSoundNodes};
 ghost use Rattle.live_table.specs.TableContents.{node_lists};
 
 use crate::explored_names::Explored;
@@ -28,16 +28,17 @@ pub(crate) fn first_faulty(
     worklist: &Worklist,
     query: &[Step],
 ) -> Result<Option<Step>, AllocError>
-    requires all { AreAllExplored (table deck.now) (node_lists nodes.now) explored.old.names worklist.now
+    requires all { AreAllExplored (table_of_deck deck.now) (node_lists nodes.now) explored.old.names worklist.now
         explored.old.dead_ends.items }
-    requires nodes { AreNumberedNames (table deck.now) (node_lists nodes.now) }
-    requires faults { AreFaultsKnown (node_lists nodes.now) explored.old.names explored.old.findings }
-    requires known { LeadToKnown (is_known nodes.now.settled.items explored.old.names worklist.now) query.now }
-    ensures explored { WereExplored (table deck.now) (node_lists nodes.now) explored.new.names
+    requires nodes { AreSoundNodes (table_of_deck deck.now) (node_lists nodes.now) }
+    requires faults { AreExploredFaultsKnown (node_lists nodes.now) explored.old.names explored.old.findings }
+    requires known { LeadToKnownNumbers
+        (is_known_to_exploration nodes.now.settled.items explored.old.names worklist.now) query.now }
+    ensures explored { WereExplored (table_of_deck deck.now) (node_lists nodes.now) explored.new.names
         explored.new.dead_ends.items }
-    ensures faults { AreFaultsKnown (node_lists nodes.now) explored.new.names explored.new.findings }
+    ensures faults { AreExploredFaultsKnown (node_lists nodes.now) explored.new.names explored.new.findings }
     ensures dead_ends { explored.new.dead_ends.items ≡ explored.old.dead_ends.items }
-    ensures found { IfOk result (IsFirstFault (node_lists nodes.now) query.now walker.new
+    ensures found { IfOk result (IsFirstExploredFault (node_lists nodes.now) query.now walker.new
         explored.new.findings.faults) }
 {
     let net = WalkGraph {
@@ -68,16 +69,18 @@ pub(crate) fn find_faulty(
     worklist: &Worklist,
     query: &[Step],
 ) -> Result<Option<Step>, AllocError>
-    requires all { AreAllExplored (table deck.now) (node_lists nodes.now) explored.old.names worklist.now
+    requires all { AreAllExplored (table_of_deck deck.now) (node_lists nodes.now) explored.old.names worklist.now
         explored.old.dead_ends.items }
-    requires nodes { AreNumberedNames (table deck.now) (node_lists nodes.now) }
-    requires faults { AreFaultsKnown (node_lists nodes.now) explored.old.names explored.old.findings }
-    requires known { LeadToKnown (is_known nodes.now.settled.items explored.old.names worklist.now) query.now }
-    ensures explored { WereExplored (table deck.now) (node_lists nodes.now) explored.new.names
+    requires nodes { AreSoundNodes (table_of_deck deck.now) (node_lists nodes.now) }
+    requires faults { AreExploredFaultsKnown (node_lists nodes.now) explored.old.names explored.old.findings }
+    requires known { LeadToKnownNumbers
+        (is_known_to_exploration nodes.now.settled.items explored.old.names worklist.now) query.now }
+    ensures explored { WereExplored (table_of_deck deck.now) (node_lists nodes.now) explored.new.names
         explored.new.dead_ends.items }
-    ensures faults { AreFaultsKnown (node_lists nodes.now) explored.new.names explored.new.findings }
+    ensures faults { AreExploredFaultsKnown (node_lists nodes.now) explored.new.names explored.new.findings }
     ensures dead_ends { explored.new.dead_ends.items ≡ explored.old.dead_ends.items }
-    ensures found { IfOk result (IsFirstFaulty (node_lists nodes.now).graph query.now explored.new.findings.faults) }
+    ensures found { IfOk result
+        (IsFirstFaultyWalkStep (node_lists nodes.now).graph query.now explored.new.findings.faults) }
 {
     findings_law();
     explored.put_all(alloc, worklist, nodes.keys.len())?;

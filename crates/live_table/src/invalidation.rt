@@ -1,19 +1,19 @@
 //! Invalidation of the outcomes that an edit affects.
 
 ghost use Rattle.std.specs.Prelude.{◌≡◌, ◌<◌, ◌∷◌, [], ℕ};
-ghost use Rattle.deck.specs.Changes.{IsChange};
-ghost use Rattle.deck.specs.Decks.{Contents};
-ghost use Rattle.deck.specs.Tables.{table};
+ghost use Rattle.deck.specs.Changes.{IsEditChange};
+ghost use Rattle.deck.specs.Decks.{DeckContents};
+ghost use Rattle.deck.specs.Tables.{table_of_deck};
 ghost use Rattle.edge_links.specs.Reach.{AreMarksCleared};
-ghost use Rattle.name_edges.specs.AffectedNames.{ForgetsNames, IsAffectedName};
-ghost use Rattle.name_walk.specs.Findings.{IsNothing};
-ghost use Rattle.live_table.specs.Calls.{IsAcceptedEdit};
-ghost use Rattle.live_table.specs.TableEdges.{IsLive, is_flagged};
+ghost use Rattle.name_edges.specs.AffectedNames.{ForgetsNameEdges, IsAffectedByEdges};
+ghost use Rattle.name_walk.specs.Findings.{AreNoWalkFindings};
+ghost use Rattle.live_table.specs.Calls.{IsAcceptedLiveEdit};
+ghost use Rattle.live_table.specs.TableEdges.{IsLive, is_flagged_settled};
 ghost use Rattle.live_table.specs.Exploration.{WereExplored};
 ghost use Rattle.live_table.specs.Forgotten.{AreForgotten, CanForget};
-ghost use Rattle.live_table.specs.OutcomesLeft.{AreNumbersLeft};
-ghost use Rattle.live_table.specs.KnownFaults.{AreFaultsKnown};
-ghost use Rattle.live_table.specs.TableContents.{node_lists, shown_table};
+ghost use Rattle.live_table.specs.OutcomesLeft.{AreSettledNumbersLeft};
+ghost use Rattle.live_table.specs.KnownFaults.{AreExploredFaultsKnown};
+ghost use Rattle.live_table.specs.TableContents.{live_view_of_nodes, node_lists};
 
 use crate::deck_table::DeckTable;
 use crate::explored_names::Explored;
@@ -40,15 +40,15 @@ pub(crate) fn forget_changed(
 )
     requires can { CanForget (node_lists nodes.old) edges.old.made }
     requires all { edges.old.waiting.items ≡ [] }
-    ensures live { (before : Contents) (reductions : ℕ) → IsLive before (node_lists nodes.old) edges.old reductions
-        → IsChange before deck.now keys.now → IsLive deck.now (node_lists nodes.new) edges.new reductions }
-    ensures edit { (before : Contents) (reductions : ℕ) → IsLive before (node_lists nodes.old) edges.old reductions
-        → IsChange before deck.now keys.now
-        → IsAcceptedEdit (shown_table before (node_lists nodes.old) reductions)
-        (shown_table deck.now (node_lists nodes.new) reductions) }
-    ensures explored { WereExplored (table deck.now) (node_lists nodes.new) explored.new.names
+    ensures live { (before : DeckContents) (reductions : ℕ) → IsLive before (node_lists nodes.old) edges.old reductions
+        → IsEditChange before deck.now keys.now → IsLive deck.now (node_lists nodes.new) edges.new reductions }
+    ensures edit { (before : DeckContents) (reductions : ℕ) → IsLive before (node_lists nodes.old) edges.old reductions
+        → IsEditChange before deck.now keys.now
+        → IsAcceptedLiveEdit (live_view_of_nodes before (node_lists nodes.old) reductions)
+        (live_view_of_nodes deck.now (node_lists nodes.new) reductions) }
+    ensures explored { WereExplored (table_of_deck deck.now) (node_lists nodes.new) explored.new.names
         explored.new.dead_ends.items }
-    ensures faults { AreFaultsKnown (node_lists nodes.new) explored.new.names explored.new.findings }
+    ensures faults { AreExploredFaultsKnown (node_lists nodes.new) explored.new.names explored.new.findings }
 {
     findings_law();
     changes_are_computed();
@@ -73,11 +73,11 @@ fn forget(
     keys: &[Key],
 )
     requires { CanForget (node_lists nodes.old) edges.old }
-    ensures forgotten { AreForgotten (table deck.now) keys.now (node_lists nodes.old) (node_lists nodes.new)
+    ensures forgotten { AreForgotten (table_of_deck deck.now) keys.now (node_lists nodes.old) (node_lists nodes.new)
         edges.old edges.new }
     ensures names { explored.new.names ≡ [] }
     ensures dead_ends { explored.new.dead_ends.items ≡ [] }
-    ensures findings { IsNothing explored.new.findings }
+    ensures findings { AreNoWalkFindings explored.new.findings }
 {
     explored.clear(alloc);
     for key in keys {
@@ -89,8 +89,8 @@ fn forget(
 // never looked at.
 fn forget_key(alloc: Global, deck: &Deck, nodes: &mut Nodes, edges: &mut NameEdges, key: &Key)
     requires { CanForget (node_lists nodes.old) edges.old }
-    ensures { AreForgotten (table deck.now) (key.now ∷ []) (node_lists nodes.old) (node_lists nodes.new) edges.old
-        edges.new }
+    ensures { AreForgotten (table_of_deck deck.now) (key.now ∷ []) (node_lists nodes.old)
+        (node_lists nodes.new) edges.old edges.new }
 {
     let Some(n) = nodes.keys.number_of(key.kind, key.name.as_bytes()) else {
         return;
@@ -104,10 +104,10 @@ fn forget_key(alloc: Global, deck: &Deck, nodes: &mut Nodes, edges: &mut NameEdg
 // Forgets the settled names that a change of the key with number `n` affects.
 fn forget_number(alloc: Global, nodes: &mut Nodes, edges: &mut NameEdges, n: usize)
     requires { n < edges.old.names }
-    ensures edges { ForgetsNames (IsAffectedName edges.old n) edges.old edges.new }
-    ensures marks { AreMarksCleared (IsAffectedName edges.old n) (is_flagged nodes.old.settled.items)
-        (is_flagged nodes.new.settled.items) }
-    ensures left { AreNumbersLeft nodes.old.settled.items nodes.new.settled.items nodes.old.settled_count
+    ensures edges { ForgetsNameEdges (IsAffectedByEdges edges.old n) edges.old edges.new }
+    ensures marks { AreMarksCleared (IsAffectedByEdges edges.old n) (is_flagged_settled nodes.old.settled.items)
+        (is_flagged_settled nodes.new.settled.items) }
+    ensures left { AreSettledNumbersLeft nodes.old.settled.items nodes.new.settled.items nodes.old.settled_count
         nodes.new.settled_count nodes.old.outcomes.items nodes.new.outcomes.items }
     ensures rest { node_lists nodes.new ≡ record (node_lists nodes.old) {
       settled_flags = nodes.new.settled.items;

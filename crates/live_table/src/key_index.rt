@@ -1,11 +1,10 @@
 //! A two-way index between keys and numbers.
 
-ghost use Rattle.std.specs.Prelude.{◌≡◌, ◌<◌, [], Some, false, length, slice_get};
-ghost use Rattle.std.specs.Prelude.{IfOk, IfSome, MatchOption, OnErr};
+ghost use Rattle.std.specs.Prelude.{◌≡◌, ◌<◌, [], Some, false, length, slice_get, IfOk, IfSome, MatchOption, OnErr};
 ghost use Rattle.def_entry.specs.Keys.{key};
-ghost use Rattle.def_entry.specs.SameKeys.{is_key_among};
-ghost use Rattle.live_table.specs.KeyIndex.{IsAdded, key_bytes};
-ghost use Rattle.live_table.specs.TableContents.{key_at};
+ghost use Rattle.def_entry.specs.SameKeys.{is_entry_key_among};
+ghost use Rattle.live_table.specs.KeyIndex.{IsNodeKeyAdded, node_key_bytes};
+ghost use Rattle.live_table.specs.TableContents.{node_key_at};
 
 use crate::stored_keys::{StoredKey, is_short, kind_told, overwrite, store};
 use def_entry::{Key, Kind};
@@ -33,13 +32,13 @@ impl Model for KeyIndex {
     ghost use Rattle.std.specs.Prelude.{List};
     ghost use Rattle.std.specs.List.{All};
     ghost use Rattle.def_entry.specs.declared.key.Key.{Key};
-    ghost use Rattle.live_table.specs.KeyIndex.{IsStoredKey, decoded_keys};
+    ghost use Rattle.live_table.specs.KeyIndex.{IsStoredNodeKey, decoded_node_keys};
 
     ghost Value = { List Key };
 
-    ghost view = { λ x. decoded_keys x.keys.keys };
+    ghost view = { λ x. decoded_node_keys x.keys.keys };
 
-    ghost invariant = { λ x. All (IsStoredKey x.wanted.capacity) x.keys.keys };
+    ghost invariant = { λ x. All (IsStoredNodeKey x.wanted.capacity) x.keys.keys };
 }
 
 impl KeyIndex {
@@ -63,7 +62,7 @@ impl KeyIndex {
     /// Returns the number of a key, or `None` if it has none. It allocates no memory.
     pub(crate) fn number_of(&mut self, kind: Kind, name: &[u8]) -> Option<usize>
         ensures kept { self.new ≡ self.old }
-        ensures number { MatchOption result (is_key_among self.old (key kind name.now) ≡ false)
+        ensures number { MatchOption result (is_entry_key_among self.old (key kind name.now) ≡ false)
             (λ n. slice_get self.old n ≡ Some (key kind name.now)) }
     {
         if self.wanted.capacity() <= name.len() {
@@ -80,7 +79,7 @@ impl KeyIndex {
         kind: Kind,
         name: &[u8],
     ) -> Result<Option<usize>, AllocError>
-        ensures { IfOk result (λ number. MatchOption number (is_key_among self.now (key kind name.now) ≡ false)
+        ensures { IfOk result (λ number. MatchOption number (is_entry_key_among self.now (key kind name.now) ≡ false)
             (λ n. slice_get self.now n ≡ Some (key kind name.now))) }
     {
         let wanted = store(alloc, kind, name)?;
@@ -90,7 +89,7 @@ impl KeyIndex {
     /// Returns the kind of the key with number `n`.
     pub(crate) fn kind(&self, n: usize) -> Kind
         requires { n < length self.now }
-        ensures { result ≡ (key_at self.now n).kind }
+        ensures { result ≡ (node_key_at self.now n).kind }
     {
         kind_told(self.bytes(n)[0])
     }
@@ -98,7 +97,7 @@ impl KeyIndex {
     /// Returns the name of the key with number `n`.
     pub(crate) fn name(&self, n: usize) -> &[u8]
         requires { n < length self.now }
-        ensures { result.now ≡ (key_at self.now n).name }
+        ensures { result.now ≡ (node_key_at self.now n).name }
     {
         &self.bytes(n)[1..]
     }
@@ -106,7 +105,7 @@ impl KeyIndex {
     // Returns the bytes of the key with number `n`.
     fn bytes(&self, n: usize) -> &[u8]
         requires { n < length self.now }
-        ensures { result.now ≡ key_bytes (key_at self.now n) }
+        ensures { result.now ≡ node_key_bytes (node_key_at self.now n) }
     {
         self.keys.as_slice()[n].as_slice()
     }
@@ -114,7 +113,7 @@ impl KeyIndex {
     /// Returns a copy of the key with number `n`, or a key with an empty name beyond the last. The only error is lack
     /// of memory.
     pub(crate) fn copy(&self, alloc: Global, n: usize) -> Result<Key, AllocError>
-        ensures { IfOk result (λ key. key ≡ key_at self.now n) }
+        ensures { IfOk result (λ key. key ≡ node_key_at self.now n) }
     {
         if self.len() <= n {
             let name = Text::from_bytes(alloc, b"")?;
@@ -142,7 +141,8 @@ impl KeyIndex {
         kind: Kind,
         name: &[u8],
     ) -> Result<Added, AllocError>
-        ensures ok { IfOk result (λ added. IsAdded (key kind name.now) self.old self.new added.number added.is_new) }
+        ensures ok { IfOk result (λ added. IsNodeKeyAdded (key kind name.now) self.old self.new added.number
+            added.is_new) }
         ensures err { OnErr result (self.new ≡ self.old) }
     {
         if let Some(number) = self.number_of_long(kind, name) {
@@ -168,7 +168,8 @@ impl KeyIndex {
 
     // Returns the number of a key, and stores the key if it has none.
     fn insert(&mut self, alloc: Global, kind: Kind, name: &[u8]) -> Result<Added, AllocError>
-        ensures ok { IfOk result (λ added. IsAdded (key kind name.now) self.old self.new added.number added.is_new) }
+        ensures ok { IfOk result (λ added. IsNodeKeyAdded (key kind name.now) self.old self.new added.number
+            added.is_new) }
         ensures err { OnErr result (self.new ≡ self.old) }
     {
         let bytes = store(alloc, kind, name)?;

@@ -6,13 +6,14 @@ ghost use Rattle.expr_tree.specs.Trees.{syntax};
 ghost use Rattle.expr_tree.specs.Words.{words_in};
 ghost use Rattle.def_entry.specs.Keys as key_spec;
 ghost use Rattle.def_entry.specs.declared.key.Kind.TheVariants as kind;
-ghost use Rattle.def_entry.specs.Tables.{is_present};
-ghost use Rattle.deck.specs.Tables.{table};
+ghost use Rattle.def_entry.specs.Tables.{is_entry_present};
+ghost use Rattle.deck.specs.Tables.{table_of_deck};
 ghost use Rattle.live_table.specs.declared.fault.QueryFault.TheVariants as query_fault;
 ghost use Rattle.live_table.specs.declared.stop.Stop.TheVariants.{OutOfMemory};
 ghost use Rattle.live_table.specs.Answers as spec;
-ghost use Rattle.live_table.specs.Calls.{ArePresent, AreQueries, IsQuery, all_names, key_queries, present_names};
-ghost use Rattle.live_table.specs.TableView.{IsRightTable};
+ghost use Rattle.live_table.specs.Calls.{AreKeysPresentInLiveTable, AreLiveQueries, IsLiveQuery, all_settleable_names};
+ghost use Rattle.live_table.specs.Calls.{live_key_queries, settle_all_queries};
+ghost use Rattle.live_table.specs.TableView.{IsRightLiveView};
 ghost use Rattle.live_table.specs.States.{AsksKey, AsksWords};
 
 mod cached_outcomes;
@@ -64,22 +65,22 @@ impl Drop for LiveTable {
 }
 
 impl Model for LiveTable {
-    ghost use Rattle.live_table.specs.TableView.{Shown, shown_code};
-    ghost use Rattle.deck.specs.Tables.{table};
+    ghost use Rattle.live_table.specs.TableView.{LiveView, live_view_code};
+    ghost use Rattle.deck.specs.Tables.{table_of_deck};
     ghost use Rattle.live_table.specs.TableEdges.{IsLive};
     ghost use Rattle.live_table.specs.Exploration.{WereExplored};
-    ghost use Rattle.live_table.specs.KnownFaults.{AreFaultsKnown};
-    ghost use Rattle.live_table.specs.TableContents.{node_lists, shown_table};
+    ghost use Rattle.live_table.specs.KnownFaults.{AreExploredFaultsKnown};
+    ghost use Rattle.live_table.specs.TableContents.{live_view_of_nodes, node_lists};
 
-    ghost Value = { Shown };
+    ghost Value = { LiveView };
 
-    ghost coded = { shown_code };
+    ghost coded = { live_view_code };
 
-    ghost view = { λ t. shown_table t.deck (node_lists t.nodes) t.reductions };
+    ghost view = { λ t. live_view_of_nodes t.deck (node_lists t.nodes) t.reductions };
 
     ghost invariant = { λ t. IsLive t.deck (node_lists t.nodes) t.edges t.reductions
-        × (WereExplored (table t.deck) (node_lists t.nodes) t.explored.names t.explored.dead_ends.items
-        × AreFaultsKnown (node_lists t.nodes) t.explored.names t.explored.findings) };
+        × (WereExplored (table_of_deck t.deck) (node_lists t.nodes) t.explored.names t.explored.dead_ends.items
+        × AreExploredFaultsKnown (node_lists t.nodes) t.explored.names t.explored.findings) };
 }
 
 impl LiveTable {
@@ -101,7 +102,7 @@ impl LiveTable {
 
     /// A law of every live table: the cached outcomes are right.
     pub fn outcomes_are_right(&self)
-        ensures { IsRightTable self.now }
+        ensures { IsRightLiveView self.now }
     {
         let _ = &self.deck;
     }
@@ -109,7 +110,7 @@ impl LiveTable {
     /// Borrows the deck.
     pub fn deck(&self) -> &Deck
         ensures deck { result.now ≡ self.now.deck }
-        ensures right { IsRightTable self.now }
+        ensures right { IsRightLiveView self.now }
     {
         &self.deck
     }
@@ -124,8 +125,9 @@ impl LiveTable {
         steps: &mut Steps<L>,
     ) -> Result<Quantity, QueryFault>
         ensures deck { self.new.deck ≡ self.old.deck }
-        ensures answer { spec.IsQueryResult result (spec.table_answer (table self.old.deck) (syntax tree.now)) }
-        ensures after { IsQuery (AsksWords (words_in (syntax tree.now))) result
+        ensures answer { spec.IsLiveQueryResult result
+            (spec.live_table_answer (table_of_deck self.old.deck) (syntax tree.now)) }
+        ensures after { IsLiveQuery (AsksWords (words_in (syntax tree.now))) result
             self.old self.new steps.old steps.new }
     {
         let deck = &self.deck;
@@ -157,8 +159,9 @@ impl LiveTable {
         steps: &mut Steps<L>,
     ) -> Result<Option<Quantity>, AllocError>
         ensures deck { self.new.deck ≡ self.old.deck }
-        ensures value { IfOk result (λ x. x ≡ spec.value_in (spec.table_answer (table self.old.deck) (syntax tree.now))) }
-        ensures after { AreQueries (AsksWords (words_in (syntax tree.now)) ∷ []) result
+        ensures value { IfOk result
+            (λ x. x ≡ spec.live_answer_value (spec.live_table_answer (table_of_deck self.old.deck) (syntax tree.now))) }
+        ensures after { AreLiveQueries (AsksWords (words_in (syntax tree.now)) ∷ []) result
             self.old self.new steps.old steps.new }
     {
         let deck = &self.deck;
@@ -196,10 +199,11 @@ impl LiveTable {
         value: &Quantity,
         steps: &mut Steps<L>,
     ) -> Result<Quantity, QueryFault>
-        requires { is_present (table self.old.deck) (key_spec.key kind.Func name.now) ≡ true }
+        requires { is_entry_present (table_of_deck self.old.deck) (key_spec.key kind.Func name.now) ≡ true }
         ensures deck { self.new.deck ≡ self.old.deck }
-        ensures answer { spec.IsQueryResult result (spec.inverse_answer (table self.old.deck) name.now value.now) }
-        ensures after { IsQuery (AsksKey (key_spec.key kind.Func name.now)) result
+        ensures answer { spec.IsLiveQueryResult result
+            (spec.live_inverse_answer (table_of_deck self.old.deck) name.now value.now) }
+        ensures after { IsLiveQuery (AsksKey (key_spec.key kind.Func name.now)) result
             self.old self.new steps.old steps.new }
     {
         let answer = ask_key(
@@ -231,7 +235,8 @@ impl LiveTable {
         steps: &mut Steps<L>,
     ) -> Result<(), AllocError>
         ensures deck { self.new.deck ≡ self.old.deck }
-        ensures after { AreQueries (all_names (table self.old.deck)) result self.old self.new steps.old steps.new }
+        ensures after { AreLiveQueries (settle_all_queries (table_of_deck self.old.deck)) result self.old self.new
+            steps.old steps.new }
     {
         table_keys_law();
         let keys = self.deck.keys(alloc)?;
@@ -245,10 +250,10 @@ impl LiveTable {
         keys: &[Key],
         steps: &mut Steps<L>,
     ) -> Result<(), AllocError>
-        requires right { IsRightTable self.old }
-        requires present { ArePresent (table self.old.deck) keys.now }
+        requires right { IsRightLiveView self.old }
+        requires present { AreKeysPresentInLiveTable (table_of_deck self.old.deck) keys.now }
         ensures deck { self.new.deck ≡ self.old.deck }
-        ensures after { AreQueries (key_queries keys.now) result self.old self.new steps.old steps.new }
+        ensures after { AreLiveQueries (live_key_queries keys.now) result self.old self.new steps.old steps.new }
     {
         for key in keys {
             self.settle_key(alloc, key, steps)?;
@@ -263,10 +268,10 @@ impl LiveTable {
         key: &Key,
         steps: &mut Steps<L>,
     ) -> Result<(), AllocError>
-        requires right { IsRightTable self.old }
-        requires present { is_present (table self.old.deck) key.now ≡ true }
+        requires right { IsRightLiveView self.old }
+        requires present { is_entry_present (table_of_deck self.old.deck) key.now ≡ true }
         ensures deck { self.new.deck ≡ self.old.deck }
-        ensures after { AreQueries (key_queries (key.now ∷ [])) result self.old self.new steps.old steps.new }
+        ensures after { AreLiveQueries (live_key_queries (key.now ∷ [])) result self.old self.new steps.old steps.new }
     {
         if let Kind::List = key.kind {
             return Ok(());
@@ -289,7 +294,7 @@ impl LiveTable {
     /// Returns the counts of the table.
     pub fn counts(&self) -> Counts
         ensures settled { result.settled ≡ map_of.len self.now.kept_outcomes }
-        ensures names { result.names ≡ length (present_names (table self.now.deck)) }
+        ensures names { result.names ≡ length (all_settleable_names (table_of_deck self.now.deck)) }
         ensures reductions { result.reductions ≡ self.now.reductions }
         ensures few { self.now.reductions ≤ 2 ^ 64 - 1 }
     {
@@ -332,7 +337,7 @@ fn no_value(stop: &Stop) -> Result<Option<Quantity>, AllocError>
 
 // Returns the value of a result, or `None` if it is a fault. Lack of memory is an error.
 fn value_of(answer: Result<Quantity, QueryFault>) -> Result<Option<Quantity>, AllocError>
-    ensures ok { IfOk result (λ value. value ≡ spec.value_in answer) }
+    ensures ok { IfOk result (λ value. value ≡ spec.live_answer_value answer) }
     ensures some { OnOk result (answer ≡ Err query_fault.OutOfMemory → ⊥) }
     ensures err { OnErr result (answer ≡ Err query_fault.OutOfMemory) }
 {

@@ -2,19 +2,19 @@
 
 ghost use Rattle.std.specs.Prelude.{◌≡◌, true, IfOk, OnOk};
 ghost use Rattle.def_entry.specs.Keys as key_spec;
-ghost use Rattle.def_entry.specs.Tables.{is_present};
-ghost use Rattle.deck.specs.Tables.{table};
+ghost use Rattle.def_entry.specs.Tables.{is_entry_present};
+ghost use Rattle.deck.specs.Tables.{table_of_deck};
 ghost use Rattle.table_names.specs.Faults.{name_fault};
-ghost use Rattle.name_numbers.specs.NumberedNames.{LeadToKnown};
-ghost use Rattle.live_table.specs.QueryEffects.{IsAsked, IsKeyAsked, IsQueryAnswered};
+ghost use Rattle.name_numbers.specs.NumberedNames.{LeadToKnownNumbers};
+ghost use Rattle.live_table.specs.QueryEffects.{IsLiveKeyQuery, IsLiveQueryAnswered, IsLiveQueryEffect};
 ghost use Rattle.live_table.specs.TableEdges.{IsLive};
-ghost use Rattle.live_table.specs.Exploration.{AreAllExplored, WereExplored, is_known};
-ghost use Rattle.live_table.specs.FoundDefinitions.{AreFoundByNumber};
-ghost use Rattle.live_table.specs.KnownFaults.{AreFaultsKnown};
-ghost use Rattle.live_table.specs.Sound.{AreNumberedNames};
+ghost use Rattle.live_table.specs.Exploration.{AreAllExplored, WereExplored, is_known_to_exploration};
+ghost use Rattle.live_table.specs.FoundDefinitions.{AreNodeDefinitionsFound};
+ghost use Rattle.live_table.specs.KnownFaults.{AreExploredFaultsKnown};
+ghost use Rattle.live_table.specs.Sound.{AreSoundNodes};
 ghost use Rattle.live_table.specs.States.{AsksWords};
-ghost use Rattle.live_table.specs.TableContents.{node_lists, shown_table};
-ghost use Rattle.live_table.specs.Stops.{HoldsByName, IsCutStop};
+ghost use Rattle.live_table.specs.TableContents.{live_view_of_nodes, node_lists};
+ghost use Rattle.live_table.specs.Stops.{HoldsOfNamedLiveResult, IsCutLiveStop};
 ghost use Rattle.live_table.specs.EvalInvariants.{AreSettledWords};
 
 use crate::dead_end::DeadEnd;
@@ -53,19 +53,19 @@ pub(crate) fn ask_words<L: Ledger>(
     steps: &mut Steps<L>,
 ) -> Result<StepList, Stop>
     requires live { IsLive deck.now (node_lists nodes.old) edges.old reductions.old }
-    requires explored { WereExplored (table deck.now) (node_lists nodes.old) explored.old.names
+    requires explored { WereExplored (table_of_deck deck.now) (node_lists nodes.old) explored.old.names
         explored.old.dead_ends.items }
-    requires faults { AreFaultsKnown (node_lists nodes.old) explored.old.names explored.old.findings }
+    requires faults { AreExploredFaultsKnown (node_lists nodes.old) explored.old.names explored.old.findings }
     ensures live { IsLive deck.now (node_lists nodes.new) edges.new reductions.new }
-    ensures explored { WereExplored (table deck.now) (node_lists nodes.new) explored.new.names
+    ensures explored { WereExplored (table_of_deck deck.now) (node_lists nodes.new) explored.new.names
         explored.new.dead_ends.items }
-    ensures faults { AreFaultsKnown (node_lists nodes.new) explored.new.names explored.new.findings }
-    ensures asked { HoldsByName (table deck.now) (node_lists nodes.new) explored.new.dead_ends.items
-        explored.new.findings.faults result (λ answer. IsAsked (AsksWords words.now)
-        (name_fault (table deck.now) words.now)
-        (λ query. AreSettledWords (table deck.now) (node_lists nodes.new) words.now query) answer
-        (shown_table deck.now (node_lists nodes.old) reductions.old)
-        (shown_table deck.now (node_lists nodes.new) reductions.new)
+    ensures faults { AreExploredFaultsKnown (node_lists nodes.new) explored.new.names explored.new.findings }
+    ensures asked { HoldsOfNamedLiveResult (table_of_deck deck.now) (node_lists nodes.new) explored.new.dead_ends.items
+        explored.new.findings.faults result (λ answer. IsLiveQueryEffect (AsksWords words.now)
+        (name_fault (table_of_deck deck.now) words.now)
+        (λ query. AreSettledWords (table_of_deck deck.now) (node_lists nodes.new) words.now query) answer
+        (live_view_of_nodes deck.now (node_lists nodes.old) reductions.old)
+        (live_view_of_nodes deck.now (node_lists nodes.new) reductions.new)
         steps.old steps.new) }
 {
     numbered_fault_law();
@@ -119,18 +119,19 @@ pub(crate) fn ask_key<L: Ledger>(
     steps: &mut Steps<L>,
 ) -> Result<usize, Stop>
     requires live { IsLive deck.now (node_lists nodes.old) edges.old reductions.old }
-    requires explored { WereExplored (table deck.now) (node_lists nodes.old) explored.old.names
+    requires explored { WereExplored (table_of_deck deck.now) (node_lists nodes.old) explored.old.names
         explored.old.dead_ends.items }
-    requires faults { AreFaultsKnown (node_lists nodes.old) explored.old.names explored.old.findings }
-    requires present { is_present (table deck.now) (key_spec.key kind name.now) ≡ true }
+    requires faults { AreExploredFaultsKnown (node_lists nodes.old) explored.old.names explored.old.findings }
+    requires present { is_entry_present (table_of_deck deck.now) (key_spec.key kind name.now) ≡ true }
     ensures live { IsLive deck.now (node_lists nodes.new) edges.new reductions.new }
-    ensures explored { WereExplored (table deck.now) (node_lists nodes.new) explored.new.names
+    ensures explored { WereExplored (table_of_deck deck.now) (node_lists nodes.new) explored.new.names
         explored.new.dead_ends.items }
-    ensures faults { AreFaultsKnown (node_lists nodes.new) explored.new.names explored.new.findings }
-    ensures asked { HoldsByName (table deck.now) (node_lists nodes.new) explored.new.dead_ends.items
-        explored.new.findings.faults result (λ answer. IsKeyAsked (key_spec.key kind name.now) (node_lists nodes.new)
-        answer (shown_table deck.now (node_lists nodes.old) reductions.old)
-        (shown_table deck.now (node_lists nodes.new) reductions.new)
+    ensures faults { AreExploredFaultsKnown (node_lists nodes.new) explored.new.names explored.new.findings }
+    ensures asked { HoldsOfNamedLiveResult (table_of_deck deck.now) (node_lists nodes.new) explored.new.dead_ends.items
+        explored.new.findings.faults result
+        (λ answer. IsLiveKeyQuery (key_spec.key kind name.now) (node_lists nodes.new)
+        answer (live_view_of_nodes deck.now (node_lists nodes.old) reductions.old)
+        (live_view_of_nodes deck.now (node_lists nodes.new) reductions.new)
         steps.old steps.new) }
 {
     numbered_fault_law();
@@ -173,21 +174,24 @@ fn settle_query<'a, L: Ledger>(
     steps: &mut Steps<L>,
 ) -> Result<(), Stop>
     requires live { IsLive deck.now (node_lists nodes.old) edges.old reductions.old }
-    requires all { AreAllExplored (table deck.now) (node_lists nodes.old) explored.old.names scratch.old.worklist
-        explored.old.dead_ends.items }
-    requires faults { AreFaultsKnown (node_lists nodes.old) explored.old.names explored.old.findings }
-    requires known { LeadToKnown (is_known nodes.old.settled.items explored.old.names scratch.old.worklist) query.now }
-    requires found { AreFoundByNumber (table deck.now) nodes.old.keys scratch.old.worklist found.now }
+    requires all { AreAllExplored (table_of_deck deck.now) (node_lists nodes.old) explored.old.names
+        scratch.old.worklist explored.old.dead_ends.items }
+    requires faults { AreExploredFaultsKnown (node_lists nodes.old) explored.old.names explored.old.findings }
+    requires known { LeadToKnownNumbers
+        (is_known_to_exploration nodes.old.settled.items explored.old.names scratch.old.worklist) query.now }
+    requires found { AreNodeDefinitionsFound (table_of_deck deck.now) nodes.old.keys scratch.old.worklist found.now }
     ensures live { IsLive deck.now (node_lists nodes.new) edges.new reductions.new }
-    ensures explored { WereExplored (table deck.now) (node_lists nodes.new) explored.new.names
+    ensures explored { WereExplored (table_of_deck deck.now) (node_lists nodes.new) explored.new.names
         explored.new.dead_ends.items }
-    ensures faults { AreFaultsKnown (node_lists nodes.new) explored.new.names explored.new.findings }
+    ensures faults { AreExploredFaultsKnown (node_lists nodes.new) explored.new.names explored.new.findings }
     ensures keys { OnOk result (nodes.new.keys ≡ nodes.old.keys) }
-    ensures answered { HoldsByName (table deck.now) (node_lists nodes.new) explored.new.dead_ends.items
-        explored.new.findings.faults result (λ answer. IsQueryAnswered (table deck.now) (node_lists nodes.old)
+    ensures answered { HoldsOfNamedLiveResult (table_of_deck deck.now)
+        (node_lists nodes.new) explored.new.dead_ends.items
+        explored.new.findings.faults result
+        (λ answer. IsLiveQueryAnswered (table_of_deck deck.now) (node_lists nodes.old)
         explored.old.dead_ends.items query.now answer
-        (shown_table deck.now (node_lists nodes.old) reductions.old)
-        (shown_table deck.now (node_lists nodes.new) reductions.new)
+        (live_view_of_nodes deck.now (node_lists nodes.old) reductions.old)
+        (live_view_of_nodes deck.now (node_lists nodes.new) reductions.new)
         steps.old steps.new) }
 {
     numbered_fault_law();
@@ -215,16 +219,18 @@ fn cut_stop(
     query: &[Step],
     end: DeadEnd,
 ) -> Result<Stop, AllocError>
-    requires all { AreAllExplored (table deck.now) (node_lists nodes.now) explored.old.names worklist.now
+    requires all { AreAllExplored (table_of_deck deck.now) (node_lists nodes.now) explored.old.names worklist.now
         explored.old.dead_ends.items }
-    requires nodes { AreNumberedNames (table deck.now) (node_lists nodes.now) }
-    requires faults { AreFaultsKnown (node_lists nodes.now) explored.old.names explored.old.findings }
-    requires known { LeadToKnown (is_known nodes.now.settled.items explored.old.names worklist.now) query.now }
-    ensures explored { WereExplored (table deck.now) (node_lists nodes.now) explored.new.names
+    requires nodes { AreSoundNodes (table_of_deck deck.now) (node_lists nodes.now) }
+    requires faults { AreExploredFaultsKnown (node_lists nodes.now) explored.old.names explored.old.findings }
+    requires known { LeadToKnownNumbers
+        (is_known_to_exploration nodes.now.settled.items explored.old.names worklist.now) query.now }
+    ensures explored { WereExplored (table_of_deck deck.now) (node_lists nodes.now) explored.new.names
         explored.new.dead_ends.items }
-    ensures faults { AreFaultsKnown (node_lists nodes.now) explored.new.names explored.new.findings }
+    ensures faults { AreExploredFaultsKnown (node_lists nodes.now) explored.new.names explored.new.findings }
     ensures dead_ends { explored.new.dead_ends.items ≡ explored.old.dead_ends.items }
-    ensures stop { IfOk result (λ stop. IsCutStop (table deck.now) (node_lists nodes.now) explored.old.dead_ends.items
+    ensures stop { IfOk result
+        (λ stop. IsCutLiveStop (table_of_deck deck.now) (node_lists nodes.now) explored.old.dead_ends.items
         explored.new.findings.faults query.now end stop) }
 {
     match find_faulty(alloc, deck, nodes, explored, worklist, query)? {

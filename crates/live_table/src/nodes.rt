@@ -3,8 +3,8 @@
 ghost use Rattle.std.specs.Prelude.{◌≡◌, ◌<◌, IfOk, OnErr, length, slice_set};
 ghost use Rattle.std.specs.Option.{is_some};
 ghost use Rattle.def_entry.specs.Keys.{key};
-ghost use Rattle.def_entry.specs.SameKeys.{is_key_among};
-ghost use Rattle.live_table.specs.KeyNumbers.{IsNumbered};
+ghost use Rattle.def_entry.specs.SameKeys.{is_entry_key_among};
+ghost use Rattle.live_table.specs.KeyNumbers.{HasNodeNumber};
 ghost use Rattle.live_table.specs.TableContents.{no_nodes, node_lists};
 
 use crate::callee::{Callee, PartStarts};
@@ -65,8 +65,8 @@ impl Nodes {
         kind: Kind,
         name: &[u8],
     ) -> Result<usize, AllocError>
-        ensures ok { IfOk result (λ n. IsNumbered (key kind name.now)
-            (is_key_among (P.keys table.now) (key kind name.now))
+        ensures ok { IfOk result (λ n. HasNodeNumber (key kind name.now)
+            (is_entry_key_among (P.keys table.now) (key kind name.now))
             n (node_lists self.old) (node_lists self.new)) }
         ensures err { OnErr result (node_lists self.new ≡ node_lists self.old) }
         ensures gathered { self.new.gathered ≡ self.old.gathered }

@@ -2,13 +2,14 @@
 
 ghost use Rattle.std.specs.Prelude.{◌≡◌, ◌<◌, true, List, IfOk, length};
 ghost use Rattle.def_entry.specs.Keys as keys;
-ghost use Rattle.def_entry.specs.Tables.{Table, is_present};
-ghost use Rattle.deck.specs.Tables.{table};
+ghost use Rattle.def_entry.specs.Tables.{EntryTable, is_entry_present};
+ghost use Rattle.deck.specs.Tables.{table_of_deck};
 ghost use Rattle.live_table.specs.declared.dead_end.DeadEnd.{DeadEnd};
-ghost use Rattle.live_table.specs.Exploration.{AreAdded, AreListed, IsKnown, IsMore};
-ghost use Rattle.live_table.specs.KeyNumbers.{AreFlagged, IsExtension};
-ghost use Rattle.live_table.specs.Sound.{AreNumberedNames};
-ghost use Rattle.live_table.specs.TableContents.{key_at, node_lists};
+ghost use Rattle.live_table.specs.Exploration.{AreNodesAdded, IsExplorationAgenda, IsExplorationGrowth};
+ghost use Rattle.live_table.specs.Exploration.{IsKnownToExploration};
+ghost use Rattle.live_table.specs.KeyNumbers.{AreNodesFlagged, IsNodeExtension};
+ghost use Rattle.live_table.specs.Sound.{AreSoundNodes};
+ghost use Rattle.live_table.specs.TableContents.{node_key_at, node_lists};
 
 use crate::deck_table::DeckTable;
 use crate::nodes::Nodes;
@@ -29,14 +30,14 @@ pub(crate) fn put_key(
     kind: Kind,
     name: &[u8],
 ) -> Result<usize, AllocError>
-    requires nodes { AreNumberedNames (table deck.now) (node_lists nodes.old) }
-    requires listed { AreListed (table deck.now) (node_lists nodes.old) explored.now worklist.old }
-    requires present { is_present (table deck.now) (keys.key kind name.now) ≡ true }
+    requires nodes { AreSoundNodes (table_of_deck deck.now) (node_lists nodes.old) }
+    requires listed { IsExplorationAgenda (table_of_deck deck.now) (node_lists nodes.old) explored.now worklist.old }
+    requires present { is_entry_present (table_of_deck deck.now) (keys.key kind name.now) ≡ true }
     ensures added { (ends : List DeadEnd)
-        → AreAdded (table deck.now) (node_lists nodes.old) (node_lists nodes.new) explored.now worklist.old worklist.new
-        ends ends }
-    ensures target { IfOk result (λ n. (keys.key kind name.now ≡ key_at nodes.new.keys n)
-        × IsKnown (node_lists nodes.new) explored.now worklist.new n) }
+        → AreNodesAdded (table_of_deck deck.now) (node_lists nodes.old) (node_lists nodes.new) explored.now worklist.old
+        worklist.new ends ends }
+    ensures target { IfOk result (λ n. (keys.key kind name.now ≡ node_key_at nodes.new.keys n)
+        × IsKnownToExploration (node_lists nodes.new) explored.now worklist.new n) }
 {
     let n = number(alloc, &DeckTable(deck), nodes, kind, name)?;
     put_target(nodes, explored, worklist, n)?;
@@ -51,14 +52,15 @@ pub(crate) fn put_target(
     worklist: &mut Worklist,
     n: usize,
 ) -> Result<(), AllocError>
-    requires nodes { (table : Table) × AreNumberedNames table (node_lists nodes.now) }
+    requires nodes { (table : EntryTable) × AreSoundNodes table (node_lists nodes.now) }
     requires within { n < length nodes.now.keys }
-    ensures added { (table : Table) (ends : List DeadEnd) → AreNumberedNames table (node_lists nodes.now)
-        → AreListed table (node_lists nodes.now) explored.now worklist.old
-        → is_present table (key_at nodes.now.keys n) ≡ true
-        → AreAdded table (node_lists nodes.now) (node_lists nodes.now) explored.now worklist.old worklist.new ends ends }
-    ensures more { IsMore worklist.old worklist.new }
-    ensures known { IfOk result (λ _. IsKnown (node_lists nodes.now) explored.now worklist.new n) }
+    ensures added { (table : EntryTable) (ends : List DeadEnd) → AreSoundNodes table (node_lists nodes.now)
+        → IsExplorationAgenda table (node_lists nodes.now) explored.now worklist.old
+        → is_entry_present table (node_key_at nodes.now.keys n) ≡ true
+        → AreNodesAdded table (node_lists nodes.now) (node_lists nodes.now) explored.now worklist.old worklist.new ends
+        ends }
+    ensures more { IsExplorationGrowth worklist.old worklist.new }
+    ensures known { IfOk result (λ _. IsKnownToExploration (node_lists nodes.now) explored.now worklist.new n) }
 {
     if nodes.settled[n] || explored.has(n) {
         return Ok(());
@@ -76,12 +78,12 @@ pub(crate) fn number<P: Present>(
     kind: Kind,
     name: &[u8],
 ) -> Result<usize, AllocError>
-    requires { AreFlagged (P.keys table.now) nodes.old }
-    ensures flagged { AreFlagged (P.keys table.now) nodes.new }
-    ensures kept { IsExtension (P.keys table.now) nodes.old nodes.new }
-    ensures more { IsMore nodes.old.keys nodes.new.keys }
+    requires { AreNodesFlagged (P.keys table.now) nodes.old }
+    ensures flagged { AreNodesFlagged (P.keys table.now) nodes.new }
+    ensures kept { IsNodeExtension (P.keys table.now) nodes.old nodes.new }
+    ensures more { IsExplorationGrowth nodes.old.keys nodes.new.keys }
     ensures number { IfOk result (λ n. (n < length nodes.new.keys)
-        × (keys.key kind name.now ≡ key_at nodes.new.keys n)) }
+        × (keys.key kind name.now ≡ node_key_at nodes.new.keys n)) }
 {
     let n = nodes.add(alloc, table, kind, name)?;
     Ok(n)

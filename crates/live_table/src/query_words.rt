@@ -1,11 +1,11 @@
 //! The words of a query.
 
 ghost use Rattle.std.specs.Prelude.{List, IfOk};
-ghost use Rattle.deck.specs.Tables.{table};
+ghost use Rattle.deck.specs.Tables.{table_of_deck};
 ghost use Rattle.live_table.specs.declared.dead_end.DeadEnd.{DeadEnd};
-ghost use Rattle.live_table.specs.Exploration.{AreAdded, AreListed};
-ghost use Rattle.live_table.specs.QueryWords.{AreQuerySteps};
-ghost use Rattle.live_table.specs.Sound.{AreNumberedNames};
+ghost use Rattle.live_table.specs.Exploration.{AreNodesAdded, IsExplorationAgenda};
+ghost use Rattle.live_table.specs.QueryWords.{AreExploredQuerySteps};
+ghost use Rattle.live_table.specs.Sound.{AreSoundNodes};
 ghost use Rattle.live_table.specs.TableContents.{node_lists};
 
 use crate::dead_end::DeadEnd;
@@ -38,12 +38,13 @@ pub(crate) fn query_steps(
     tried: &mut TriedKeys,
     words: &Words<'_>,
 ) -> Result<QuerySteps, AllocError>
-    requires nodes { AreNumberedNames (table deck.now) (node_lists nodes.old) }
-    requires listed { AreListed (table deck.now) (node_lists nodes.old) explored.now worklist.old }
-    ensures added { (ends : List DeadEnd) → AreAdded (table deck.now) (node_lists nodes.old) (node_lists nodes.new)
+    requires nodes { AreSoundNodes (table_of_deck deck.now) (node_lists nodes.old) }
+    requires listed { IsExplorationAgenda (table_of_deck deck.now) (node_lists nodes.old) explored.now worklist.old }
+    ensures added { (ends : List DeadEnd)
+        → AreNodesAdded (table_of_deck deck.now) (node_lists nodes.old) (node_lists nodes.new)
         explored.now worklist.old worklist.new ends ends }
-    ensures steps { IfOk result (λ query. AreQuerySteps (table deck.now) (node_lists nodes.new) explored.now
-        worklist.new
+    ensures steps { IfOk result
+        (λ query. AreExploredQuerySteps (table_of_deck deck.now) (node_lists nodes.new) explored.now worklist.new
         words.now query.steps query.end) }
 {
     let mut steps = StepList::new(alloc);

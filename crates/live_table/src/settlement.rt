@@ -2,21 +2,21 @@
 
 ghost use Rattle.std.specs.Prelude.{◌≡◌, ◌+◌, ◌^◌, ◌<◌, ◌∷◌, [], ℕ, map, true, IfOk, OnErr, OnOk, Some, length};
 ghost use Rattle.std.specs.Prelude.{slice_get, Contains};
-ghost use Rattle.def_entry.specs.Tables.{is_present};
-ghost use Rattle.def_entry.specs.Views.{what_view};
+ghost use Rattle.def_entry.specs.Tables.{is_entry_present};
+ghost use Rattle.def_entry.specs.Views.{entry_definition_view};
 ghost use Rattle.live_table.specs.declared.callee.Callee.{Callee};
-ghost use Rattle.deck.specs.Tables.{table};
+ghost use Rattle.deck.specs.Tables.{table_of_deck};
 ghost use Rattle.tree_eval.specs.Entries.{rank_of_meaning};
 ghost use Rattle.table_names.specs.Meanings as names;
-ghost use Rattle.live_table.specs.QueryEffects.{AreSettledBy, put_in};
-ghost use Rattle.live_table.specs.Due.{AreDue, IsDue, with_outcome};
-ghost use Rattle.live_table.specs.TableEdges.{HasLateEdges};
+ghost use Rattle.live_table.specs.QueryEffects.{AreSettledBy, live_view_with_settled};
+ghost use Rattle.live_table.specs.Due.{AreDueToBeSettled, IsDueToBeSettled, nodes_with_settled_outcome};
+ghost use Rattle.live_table.specs.TableEdges.{HasLateSettledEdges};
 ghost use Rattle.live_table.specs.Exploration.{StayExplored};
-ghost use Rattle.live_table.specs.FoundDefinitions.{AreFoundByNumber, HasEntry};
-ghost use Rattle.live_table.specs.KnownFaults.{IsLater};
+ghost use Rattle.live_table.specs.FoundDefinitions.{AreNodeDefinitionsFound, HasLiveEntry};
+ghost use Rattle.live_table.specs.KnownFaults.{AreMoreNamesSettled};
 ghost use Rattle.live_table.specs.Ranks as ranks;
-ghost use Rattle.live_table.specs.Sound.{IsSound};
-ghost use Rattle.live_table.specs.TableContents.{key_at, node_lists, shown_table};
+ghost use Rattle.live_table.specs.Sound.{IsSoundLiveTable};
+ghost use Rattle.live_table.specs.TableContents.{live_view_of_nodes, node_key_at, node_lists};
 
 use crate::callee::Callee;
 use crate::late_edges::LateEdges;
@@ -44,17 +44,17 @@ pub(crate) fn settle<'a, L: Ledger>(
     found: &[&'a What],
     steps: &mut Steps<L>,
 ) -> Result<(), AllocError>
-    requires sound { IsSound deck.now (node_lists nodes.old) reductions.old }
-    requires edges { HasLateEdges deck.now (node_lists nodes.old) edges.old.waiting.items edges.old.made }
-    requires order { AreDue (table deck.now) (node_lists nodes.old) order.now }
-    requires found { AreFoundByNumber (table deck.now) nodes.old.keys worklist.now found.now }
-    ensures sound { IsSound deck.now (node_lists nodes.new) reductions.new }
-    ensures edges { HasLateEdges deck.now (node_lists nodes.new) edges.new.waiting.items edges.new.made }
-    ensures explored { StayExplored (table deck.now) (node_lists nodes.old) (node_lists nodes.new) }
-    ensures later { IsLater (node_lists nodes.old) (node_lists nodes.new) }
-    ensures settled { AreSettledBy (map (key_at nodes.old.keys) order.now) result
-        (shown_table deck.now (node_lists nodes.old) reductions.old)
-        (shown_table deck.now (node_lists nodes.new) reductions.new)
+    requires sound { IsSoundLiveTable deck.now (node_lists nodes.old) reductions.old }
+    requires edges { HasLateSettledEdges deck.now (node_lists nodes.old) edges.old.waiting.items edges.old.made }
+    requires order { AreDueToBeSettled (table_of_deck deck.now) (node_lists nodes.old) order.now }
+    requires found { AreNodeDefinitionsFound (table_of_deck deck.now) nodes.old.keys worklist.now found.now }
+    ensures sound { IsSoundLiveTable deck.now (node_lists nodes.new) reductions.new }
+    ensures edges { HasLateSettledEdges deck.now (node_lists nodes.new) edges.new.waiting.items edges.new.made }
+    ensures explored { StayExplored (table_of_deck deck.now) (node_lists nodes.old) (node_lists nodes.new) }
+    ensures later { AreMoreNamesSettled (node_lists nodes.old) (node_lists nodes.new) }
+    ensures settled { AreSettledBy (map (node_key_at nodes.old.keys) order.now) result
+        (live_view_of_nodes deck.now (node_lists nodes.old) reductions.old)
+        (live_view_of_nodes deck.now (node_lists nodes.new) reductions.new)
         steps.old steps.new }
     ensures keys { OnOk result (nodes.new.keys ≡ nodes.old.keys) }
 {
@@ -73,10 +73,10 @@ fn what_of<'a>(
     found: &[&'a What],
     n: usize,
 ) -> &'a What
-    requires found { AreFoundByNumber (table deck.now) nodes.now.keys worklist.now found.now }
+    requires found { AreNodeDefinitionsFound (table_of_deck deck.now) nodes.now.keys worklist.now found.now }
     requires within { n < length nodes.now.keys }
-    requires present { is_present (table deck.now) (key_at nodes.now.keys n) ≡ true }
-    ensures { HasEntry (table deck.now) (key_at nodes.now.keys n) (what_view result.now) }
+    requires present { is_entry_present (table_of_deck deck.now) (node_key_at nodes.now.keys n) ≡ true }
+    ensures { HasLiveEntry (table_of_deck deck.now) (node_key_at nodes.now.keys n) (entry_definition_view result.now) }
 {
     let Some(place) = worklist.place_of(n) else {
         return entry(deck, nodes, n).what;
@@ -98,20 +98,23 @@ fn settle_one<L: Ledger>(
     what: &What,
     steps: &mut Steps<L>,
 ) -> Result<(), AllocError>
-    requires sound { IsSound deck.now (node_lists nodes.old) reductions.old }
-    requires edges { HasLateEdges deck.now (node_lists nodes.old) edges.old.waiting.items edges.old.made }
-    requires due { IsDue (table deck.now) (node_lists nodes.old) n }
-    requires what { HasEntry (table deck.now) (key_at nodes.old.keys n) (what_view what.now) }
-    ensures sound { IsSound deck.now (node_lists nodes.new) reductions.new }
-    ensures edges { HasLateEdges deck.now (node_lists nodes.new) edges.new.waiting.items edges.new.made }
-    ensures explored { StayExplored (table deck.now) (node_lists nodes.old) (node_lists nodes.new) }
-    ensures later { IsLater (node_lists nodes.old) (node_lists nodes.new) }
+    requires sound { IsSoundLiveTable deck.now (node_lists nodes.old) reductions.old }
+    requires edges { HasLateSettledEdges deck.now (node_lists nodes.old) edges.old.waiting.items edges.old.made }
+    requires due { IsDueToBeSettled (table_of_deck deck.now) (node_lists nodes.old) n }
+    requires what { HasLiveEntry (table_of_deck deck.now) (node_key_at nodes.old.keys n)
+        (entry_definition_view what.now) }
+    ensures sound { IsSoundLiveTable deck.now (node_lists nodes.new) reductions.new }
+    ensures edges { HasLateSettledEdges deck.now (node_lists nodes.new) edges.new.waiting.items edges.new.made }
+    ensures explored { StayExplored (table_of_deck deck.now) (node_lists nodes.old) (node_lists nodes.new) }
+    ensures later { AreMoreNamesSettled (node_lists nodes.old) (node_lists nodes.new) }
     ensures nodes { OnOk result
-        ((o : Outcome) × (c : Callee) × (node_lists nodes.new ≡ with_outcome n o c (node_lists nodes.old))) }
-    ensures ok { OnOk result (shown_table deck.now (node_lists nodes.new) reductions.new
-        ≡ put_in (shown_table deck.now (node_lists nodes.old) reductions.old) (key_at nodes.old.keys n ∷ [])) }
-    ensures err { OnErr result (shown_table deck.now (node_lists nodes.new) reductions.new
-        ≡ shown_table deck.now (node_lists nodes.old) reductions.old) }
+        ((o : Outcome) × (c : Callee)
+        × (node_lists nodes.new ≡ nodes_with_settled_outcome n o c (node_lists nodes.old))) }
+    ensures ok { OnOk result (live_view_of_nodes deck.now (node_lists nodes.new) reductions.new
+        ≡ live_view_with_settled (live_view_of_nodes deck.now (node_lists nodes.old) reductions.old)
+        (node_key_at nodes.old.keys n ∷ [])) }
+    ensures err { OnErr result (live_view_of_nodes deck.now (node_lists nodes.new) reductions.new
+        ≡ live_view_of_nodes deck.now (node_lists nodes.old) reductions.old) }
     ensures steps { steps.new ≡ steps.old + 1 }
 {
     let outcome = outcome_of(alloc, deck, nodes, n, what, steps)?;
@@ -129,7 +132,8 @@ fn store_outcome(nodes: &mut Nodes, n: usize, outcome: Outcome, rank: u32)
     requires settled { n < length (node_lists nodes.old).settled_flags }
     requires room { (node_lists nodes.old).count + 1 < 2 ^ 64 }
     ensures { (c : Callee) → slice_get (node_lists nodes.old).callees n ≡ Some c
-        → node_lists nodes.new ≡ with_outcome n outcome (ranks.with_rank rank c) (node_lists nodes.old) }
+        → node_lists nodes.new ≡ nodes_with_settled_outcome n outcome (ranks.node_callee_with_rank rank c)
+        (node_lists nodes.old) }
 {
     let starts = nodes.callees[n].starts;
     nodes.callees[n] = Callee { rank, starts };
@@ -147,10 +151,11 @@ fn outcome_of<'a, L: Ledger>(
     what: &What,
     steps: &mut Steps<L>,
 ) -> Result<Outcome, AllocError>
-    requires sound { (reductions : ℕ) × IsSound deck.now (node_lists nodes.now) reductions }
-    requires due { IsDue (table deck.now) (node_lists nodes.now) n }
-    requires what { HasEntry (table deck.now) (key_at nodes.now.keys n) (what_view what.now) }
-    ensures outcome { IfOk result (λ o. o ≡ names.outcome (table deck.now) (key_at nodes.now.keys n)) }
+    requires sound { (reductions : ℕ) × IsSoundLiveTable deck.now (node_lists nodes.now) reductions }
+    requires due { IsDueToBeSettled (table_of_deck deck.now) (node_lists nodes.now) n }
+    requires what { HasLiveEntry (table_of_deck deck.now) (node_key_at nodes.now.keys n)
+        (entry_definition_view what.now) }
+    ensures outcome { IfOk result (λ o. o ≡ names.outcome (table_of_deck deck.now) (node_key_at nodes.now.keys n)) }
     ensures steps { steps.new ≡ steps.old + 1 }
 {
     let surroundings = Surroundings {
@@ -163,10 +168,10 @@ fn outcome_of<'a, L: Ledger>(
 
 // Returns the rank of a name with this outcome.
 fn rank_of(deck: &Deck, nodes: &Nodes, n: usize, outcome: &Outcome) -> u32
-    requires sound { (reductions : ℕ) × IsSound deck.now (node_lists nodes.now) reductions }
-    requires due { IsDue (table deck.now) (node_lists nodes.now) n }
-    requires outcome { outcome.now ≡ names.outcome (table deck.now) (key_at nodes.now.keys n) }
-    ensures { result ≡ rank_of_meaning (names.key_meaning (table deck.now) (key_at nodes.now.keys n)) }
+    requires sound { (reductions : ℕ) × IsSoundLiveTable deck.now (node_lists nodes.now) reductions }
+    requires due { IsDueToBeSettled (table_of_deck deck.now) (node_lists nodes.now) n }
+    requires outcome { outcome.now ≡ names.outcome (table_of_deck deck.now) (node_key_at nodes.now.keys n) }
+    ensures { result ≡ rank_of_meaning (names.key_meaning (table_of_deck deck.now) (node_key_at nodes.now.keys n)) }
 {
     // No deck has so many lines that a rank would not fit.
     tables_are_of_lines();
@@ -180,7 +185,7 @@ fn rank_of(deck: &Deck, nodes: &Nodes, n: usize, outcome: &Outcome) -> u32
 // Returns the greatest rank of the names to which the steps lead, or 0 if there are none.
 fn greatest_rank(callees: &[Callee], steps: &[Step]) -> u32
     requires { (m : ℕ) → Contains steps.now (Step.To m) → m < length callees.now }
-    ensures { result ≡ ranks.greatest_step_rank callees.now steps.now }
+    ensures { result ≡ ranks.greatest_node_step_rank callees.now steps.now }
 {
     let mut greatest = 0;
     for step in steps {
@@ -192,7 +197,7 @@ fn greatest_rank(callees: &[Callee], steps: &[Step]) -> u32
 // Returns the rank of the name to which a step leads, or 0 if it leads nowhere.
 fn step_rank(callees: &[Callee], step: Step) -> u32
     requires { (m : ℕ) → step ≡ Step.To m → m < length callees.now }
-    ensures { result ≡ ranks.step_rank callees.now step }
+    ensures { result ≡ ranks.node_step_rank callees.now step }
 {
     match step {
         Step::To(n) => callees[n].rank,

@@ -1,14 +1,14 @@
 //! The places where queries stop.
 
 ghost use Rattle.std.specs.Prelude.{◌≡◌, ◌⊎◌, ◌∷◌, [], Some, IfOk};
-ghost use Rattle.deck.specs.Tables.{table};
-ghost use Rattle.name_walk.specs.Findings.{IsFaultyStep};
-ghost use Rattle.live_table.specs.QueryEffects.{fault_in};
+ghost use Rattle.deck.specs.Tables.{table_of_deck};
+ghost use Rattle.name_walk.specs.Findings.{IsFaultyWalkStep};
+ghost use Rattle.live_table.specs.QueryEffects.{live_query_fault};
 ghost use Rattle.live_table.specs.declared.fault.QueryFault.{QueryFault};
 ghost use Rattle.live_table.specs.declared.fault.QueryFault.TheVariants as query_fault;
-ghost use Rattle.live_table.specs.KnownFaults.{AreFaultsKnown};
-ghost use Rattle.live_table.specs.Sound.{AreNumberedNames};
-ghost use Rattle.live_table.specs.Stops.{IsStopFault};
+ghost use Rattle.live_table.specs.KnownFaults.{AreExploredFaultsKnown};
+ghost use Rattle.live_table.specs.Sound.{AreSoundNodes};
+ghost use Rattle.live_table.specs.Stops.{IsLiveStopFault};
 ghost use Rattle.live_table.specs.TableContents.{node_lists};
 
 use crate::dead_end::DeadEnd;
@@ -52,11 +52,13 @@ pub(crate) fn fault_of_stop(
     explored: &Explored,
     stop: &Stop,
 ) -> QueryFault
-    requires nodes { AreNumberedNames (table deck.now) (node_lists nodes.now) }
-    requires faults { AreFaultsKnown (node_lists nodes.now) explored.now.names explored.now.findings }
-    requires named { (q : QueryFault) × IsStopFault (table deck.now) (node_lists nodes.now) explored.now.dead_ends.items
+    requires nodes { AreSoundNodes (table_of_deck deck.now) (node_lists nodes.now) }
+    requires faults { AreExploredFaultsKnown (node_lists nodes.now) explored.now.names explored.now.findings }
+    requires named { (q : QueryFault)
+        × IsLiveStopFault (table_of_deck deck.now) (node_lists nodes.now) explored.now.dead_ends.items
         explored.now.findings.faults stop.now q }
-    ensures { (q : QueryFault) → IsStopFault (table deck.now) (node_lists nodes.now) explored.now.dead_ends.items
+    ensures { (q : QueryFault)
+        → IsLiveStopFault (table_of_deck deck.now) (node_lists nodes.now) explored.now.dead_ends.items
         explored.now.findings.faults stop.now q → (result ≡ query_fault.OutOfMemory) ⊎ (result ≡ q) }
 {
     match named_stop(alloc, deck, nodes, explored, stop) {
@@ -73,11 +75,12 @@ fn named_stop(
     explored: &Explored,
     stop: &Stop,
 ) -> Result<NameFault, AllocError>
-    requires nodes { AreNumberedNames (table deck.now) (node_lists nodes.now) }
-    requires faults { AreFaultsKnown (node_lists nodes.now) explored.now.names explored.now.findings }
-    requires named { (q : QueryFault) × IsStopFault (table deck.now) (node_lists nodes.now) explored.now.dead_ends.items
+    requires nodes { AreSoundNodes (table_of_deck deck.now) (node_lists nodes.now) }
+    requires faults { AreExploredFaultsKnown (node_lists nodes.now) explored.now.names explored.now.findings }
+    requires named { (q : QueryFault)
+        × IsLiveStopFault (table_of_deck deck.now) (node_lists nodes.now) explored.now.dead_ends.items
         explored.now.findings.faults stop.now q }
-    ensures { IfOk result (λ f. (q : QueryFault) → IsStopFault (table deck.now) (node_lists nodes.now)
+    ensures { IfOk result (λ f. (q : QueryFault) → IsLiveStopFault (table_of_deck deck.now) (node_lists nodes.now)
         explored.now.dead_ends.items explored.now.findings.faults stop.now q → q ≡ query_fault.Name f) }
 {
     match stop {
@@ -95,11 +98,11 @@ fn fault_below(
     explored: &Explored,
     step: Step,
 ) -> Result<NameFault, AllocError>
-    requires nodes { AreNumberedNames (table deck.now) (node_lists nodes.now) }
-    requires faults { AreFaultsKnown (node_lists nodes.now) explored.now.names explored.now.findings }
-    requires known { IsFaultyStep explored.now.findings.faults step }
-    ensures { IfOk result (λ f. fault_in (table deck.now) (node_lists nodes.now) explored.now.dead_ends.items
-        (step ∷ []) ≡ Some f) }
+    requires nodes { AreSoundNodes (table_of_deck deck.now) (node_lists nodes.now) }
+    requires faults { AreExploredFaultsKnown (node_lists nodes.now) explored.now.names explored.now.findings }
+    requires known { IsFaultyWalkStep explored.now.findings.faults step }
+    ensures { IfOk result (λ f. live_query_fault (table_of_deck deck.now)
+        (node_lists nodes.now) explored.now.dead_ends.items (step ∷ []) ≡ Some f) }
 {
     let fault = explored.findings.fault(alloc, step)?;
     let dead_ends = explored.dead_ends.as_slice();

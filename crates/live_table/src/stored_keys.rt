@@ -1,9 +1,9 @@
 //! Keys in the form of bytes.
 
 ghost use Rattle.std.specs.Prelude.{◌≡◌, ◌<◌, ◌≤◌, IfOk, IsOk, OnOk, length};
-ghost use Rattle.def_entry.specs.KeyOrder.{kind_at, kind_number};
+ghost use Rattle.def_entry.specs.KeyOrder.{key_order_number, kind_at_key_order};
 ghost use Rattle.def_entry.specs.Keys.{key};
-ghost use Rattle.live_table.specs.KeyIndex.{key_bytes};
+ghost use Rattle.live_table.specs.KeyIndex.{node_key_bytes};
 
 use def_entry::Kind;
 use smallvec::SmallVec;
@@ -31,7 +31,7 @@ pub(crate) fn is_short(name: &[u8]) -> bool {
 
 /// Converts a key into bytes. The only error is lack of memory.
 pub(crate) fn store(alloc: Global, kind: Kind, name: &[u8]) -> Result<StoredKey, AllocError>
-    ensures { IfOk result (λ bytes. bytes.items ≡ key_bytes (key kind name.now)) }
+    ensures { IfOk result (λ bytes. bytes.items ≡ node_key_bytes (key kind name.now)) }
 {
     let mut bytes = StoredKey::with_capacity(alloc, name.len() + 1)?;
     overwrite(&mut bytes, kind, name)?;
@@ -40,7 +40,7 @@ pub(crate) fn store(alloc: Global, kind: Kind, name: &[u8]) -> Result<StoredKey,
 
 /// Overwrites the bytes with a key. It allocates memory only if the key does not fit.
 pub(crate) fn overwrite(bytes: &mut StoredKey, kind: Kind, name: &[u8]) -> Result<(), AllocError>
-    ensures ok { OnOk result (bytes.new.items ≡ key_bytes (key kind name.now)) }
+    ensures ok { OnOk result (bytes.new.items ≡ node_key_bytes (key kind name.now)) }
     ensures room { bytes.old.capacity ≤ bytes.new.capacity }
     ensures succeeds { length name.now < bytes.old.capacity → IsOk result }
 {
@@ -51,14 +51,14 @@ pub(crate) fn overwrite(bytes: &mut StoredKey, kind: Kind, name: &[u8]) -> Resul
 
 // The byte that encodes a kind.
 fn kind_byte(kind: Kind) -> u8
-    ensures { result ≡ kind_number kind }
+    ensures { result ≡ key_order_number kind }
 {
     kind as u8
 }
 
 /// The kind that a byte encodes.
 pub(crate) fn kind_told(byte: u8) -> Kind
-    ensures { result ≡ kind_at byte }
+    ensures { result ≡ kind_at_key_order byte }
 {
     match byte {
         UNIT => Kind::Unit,

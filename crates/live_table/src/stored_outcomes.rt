@@ -13,16 +13,18 @@ pub(crate) struct Kept {
 
 impl Marks for Kept {
     ghost use Rattle.std.specs.Prelude.{slice_index_or, false};
-    ghost use Rattle.live_table.specs.OutcomesLeft.{AreNumbersLeft, left_at_first, left_on};
+    ghost use Rattle.live_table.specs.OutcomesLeft.{AreSettledNumbersLeft, settled_numbers_left_at_first};
+    ghost use Rattle.live_table.specs.OutcomesLeft.{settled_numbers_left_in_turn};
 
     ghost is_marked = { λ kept n. slice_index_or kept.settled.items n false };
 
-    ghost stays = { λ old new. AreNumbersLeft old.settled.items new.settled.items old.count new.count
+    ghost stays = { λ old new. AreSettledNumbersLeft old.settled.items new.settled.items old.count new.count
         old.outcomes.items new.outcomes.items };
 
-    ghost stays_at_first = { λ kept. left_at_first kept.settled.items kept.count kept.outcomes.items };
+    ghost stays_at_first = { λ kept. settled_numbers_left_at_first kept.settled.items kept.count kept.outcomes.items };
 
-    ghost stays_on = { λ old mid new first then. left_on old.settled.items mid.settled.items new.settled.items
+    ghost stays_on = { λ old mid new first then. settled_numbers_left_in_turn old.settled.items mid.settled.items
+        new.settled.items
         old.count mid.count new.count old.outcomes.items mid.outcomes.items new.outcomes.items first then };
 
     fn clear(&mut self, n: usize) {

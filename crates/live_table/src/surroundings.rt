@@ -1,13 +1,13 @@
 //! The environment that the nodes provide to an evaluation.
 
 ghost use Rattle.std.specs.Prelude.{◌≡◌, ◌+◌, ◌*◌, ◌^◌, ◌<◌, ℕ, true, Some, length, slice_get};
-ghost use Rattle.def_entry.specs.Tables.{entry_at, is_present};
+ghost use Rattle.def_entry.specs.Tables.{entry_at, is_entry_present};
 ghost use Rattle.def_entry.specs.Views.{entry_view};
-ghost use Rattle.deck.specs.Tables.{table};
-ghost use Rattle.name_walk.specs.Steps.{steps};
+ghost use Rattle.deck.specs.Tables.{table_of_deck};
+ghost use Rattle.name_walk.specs.Steps.{graph_steps};
 ghost use Rattle.live_table.specs.declared.callee.Callee.{Callee};
 ghost use Rattle.live_table.specs.Callees as callees;
-ghost use Rattle.live_table.specs.TableContents.{key_at};
+ghost use Rattle.live_table.specs.TableContents.{node_key_at};
 
 use crate::nodes::Nodes;
 use deck::Deck;
@@ -35,28 +35,28 @@ pub(crate) struct Surroundings<'a, 'w> {
 }
 
 impl<'a, 'w> Model for Surroundings<'a, 'w> {
-    ghost use Rattle.live_table.specs.Scenes.{Scene};
+    ghost use Rattle.live_table.specs.Scenes.{NodeScene};
 
-    ghost Value = { Scene };
+    ghost Value = { NodeScene };
 
     ghost use Rattle.live_table.specs.TableContents.{node_lists};
-    ghost use Rattle.live_table.specs.EvalInvariants.{IsSurrounding, scene};
+    ghost use Rattle.live_table.specs.EvalInvariants.{AreRightNodesWithSubject, node_scene};
 
-    ghost view = { λ s. scene s.deck.now (node_lists s.nodes.now) s.asked };
+    ghost view = { λ s. node_scene s.deck.now (node_lists s.nodes.now) s.asked };
 
-    ghost invariant = { λ s. IsSurrounding s.deck.now (node_lists s.nodes.now) s.asked };
+    ghost invariant = { λ s. AreRightNodesWithSubject s.deck.now (node_lists s.nodes.now) s.asked };
 }
 
 impl<'a, 'w> Env for Surroundings<'a, 'w> {
     ghost use Rattle.live_table.specs.Scenes as scenes;
 
-    ghost words = { scenes.holder_words };
+    ghost words = { scenes.node_holder_words };
 
-    ghost means = { scenes.word_means };
+    ghost means = { scenes.node_word_meaning };
 
-    ghost has = { scenes.has_callee };
+    ghost has = { scenes.has_node_callee };
 
-    ghost callee = { scenes.callee_at };
+    ghost callee = { scenes.node_callee_at };
 
     fn meaning(&self, holder: Holder, place: usize) -> Meaning<'_> {
         self.meaning_of_targets(self.targets(holder, place))
@@ -84,18 +84,18 @@ struct Targets {
 
 impl<'a, 'w> Surroundings<'a, 'w> {
     ghost use Rattle.expr_tree.specs.declared.word_list.WordUse.{WordUse};
-    ghost use Rattle.tree_eval.specs.Environment.{IsMeaningTold};
+    ghost use Rattle.tree_eval.specs.Environment.{IsReportedEvalMeaning};
     ghost use Rattle.table_names.specs.Meanings as names;
-    ghost use Rattle.name_walk.specs.ClosedNames.{IsSettled};
+    ghost use Rattle.name_walk.specs.ClosedNames.{IsSettledInGraph};
     ghost use Rattle.live_table.specs.Scenes as scenes;
 
     // Returns the numbers of the targets of the word at a place.
     fn targets(&self, holder: Holder, place: usize) -> Targets
-        requires { place < length (scenes.holder_words self.now holder) }
-        ensures led { (u : WordUse) → slice_get (scenes.holder_words self.now holder) place ≡ Some u
-            → scenes.IsLed self.now u result.first result.second }
-        ensures first { IsSettled self.now.settled_flags result.first }
-        ensures second { IsSettled self.now.settled_flags result.second }
+        requires { place < length (scenes.node_holder_words self.now holder) }
+        ensures led { (u : WordUse) → slice_get (scenes.node_holder_words self.now holder) place ≡ Some u
+            → scenes.IsWordLedToSettled self.now u result.first result.second }
+        ensures first { IsSettledInGraph self.now.settled_flags result.first }
+        ensures second { IsSettledInGraph self.now.settled_flags result.second }
     {
         match holder {
             Holder::Query => match self.asked {
@@ -111,11 +111,11 @@ impl<'a, 'w> Surroundings<'a, 'w> {
 
     // Returns the meaning of a word, given the numbers of its targets.
     fn meaning_of_targets(&self, targets: Targets) -> Meaning<'_>
-        requires first { IsSettled self.now.settled_flags targets.first }
-        requires second { IsSettled self.now.settled_flags targets.second }
-        ensures { (u : WordUse) → scenes.IsLed self.now u targets.first targets.second
-            → IsMeaningTold (scenes.has_callee self.now) (scenes.callee_at self.now) (scenes.word_means self.now u)
-            result }
+        requires first { IsSettledInGraph self.now.settled_flags targets.first }
+        requires second { IsSettledInGraph self.now.settled_flags targets.second }
+        ensures { (u : WordUse) → scenes.IsWordLedToSettled self.now u targets.first targets.second
+            → IsReportedEvalMeaning (scenes.has_node_callee self.now) (scenes.node_callee_at self.now)
+            (scenes.node_word_meaning self.now u) result }
     {
         let outcome = self.outcome(targets.first);
         if targets.first != targets.second {
@@ -129,8 +129,8 @@ impl<'a, 'w> Surroundings<'a, 'w> {
 
     // Returns the outcome of a settled name.
     fn outcome(&self, n: usize) -> &Outcome
-        requires { IsSettled self.now.settled_flags n }
-        ensures { result.now ≡ names.outcome (table self.now.deck) (key_at self.now.keys n) }
+        requires { IsSettledInGraph self.now.settled_flags n }
+        ensures { result.now ≡ names.outcome (table_of_deck self.now.deck) (node_key_at self.now.keys n) }
     {
         match &self.nodes.outcomes[n] {
             Some(outcome) => outcome,
@@ -142,8 +142,8 @@ impl<'a, 'w> Surroundings<'a, 'w> {
 /// Returns the entry of the key with number `n`.
 pub(crate) fn entry<'a>(deck: &'a Deck, nodes: &Nodes, n: usize) -> Entry<'a>
     requires within { n < length nodes.now.keys }
-    requires present { is_present (table deck.now) (key_at nodes.now.keys n) ≡ true }
-    ensures { entry_at (table deck.now) (key_at nodes.now.keys n) ≡ Some (entry_view result) }
+    requires present { is_entry_present (table_of_deck deck.now) (node_key_at nodes.now.keys n) ≡ true }
+    ensures { entry_at (table_of_deck deck.now) (node_key_at nodes.now.keys n) ≡ Some (entry_view result) }
 {
     let kind = nodes.keys.kind(n);
     let name = nodes.keys.name(n);
@@ -153,7 +153,7 @@ pub(crate) fn entry<'a>(deck: &'a Deck, nodes: &Nodes, n: usize) -> Entry<'a>
 /// Borrows the steps of the name with number `n`.
 pub(crate) fn steps_of(nodes: &Nodes, n: usize) -> &[Step]
     requires { n < length nodes.now.steps.items }
-    ensures is { result.now ≡ steps nodes.now.steps.items n }
+    ensures is { result.now ≡ graph_steps nodes.now.steps.items n }
     ensures few { length result.now < 2 ^ 63 }
 {
     nodes.steps[n].as_slice()
@@ -162,7 +162,8 @@ pub(crate) fn steps_of(nodes: &Nodes, n: usize) -> &[Step]
 // Returns the place at which the words of a part begin among those of the entry of the name with number `n`.
 fn start_of(nodes: &Nodes, n: usize, part: Part) -> usize
     requires { n < length nodes.now.callees.items }
-    ensures { (c : Callee) → slice_get nodes.now.callees.items n ≡ Some c → result ≡ callees.start_at c.starts part }
+    ensures { (c : Callee) → slice_get nodes.now.callees.items n ≡ Some c → result
+        ≡ callees.cached_part_start c.starts part }
 {
     let starts = &nodes.callees[n].starts;
     match part {

@@ -2,7 +2,7 @@
 
 ghost use Rattle.std.specs.Prelude.{◌≡◌, ◌<◌, ◌++◌, ◌∷◌, [], length, OnOk};
 ghost use Rattle.def_entry.specs.Keys.{key};
-ghost use Rattle.live_table.specs.TableContents.{key_at};
+ghost use Rattle.live_table.specs.TableContents.{node_key_at};
 
 use def_entry::Kind;
 use name_lookup::{Looking, Present};
@@ -29,13 +29,13 @@ struct TriedKey {
 impl Model for TriedKeys {
     ghost use Rattle.std.specs.Prelude.{List};
     ghost use Rattle.def_entry.specs.declared.key.Key.{Key};
-    ghost use Rattle.live_table.specs.TriedKeys.{AreWithin, keys_of_ranges};
+    ghost use Rattle.live_table.specs.TriedKeys.{AreNodeKeyRangesWithin, node_keys_of_ranges};
 
     ghost Value = { List Key };
 
-    ghost view = { λ t. keys_of_ranges t.names.items t.keys.items };
+    ghost view = { λ t. node_keys_of_ranges t.names.items t.keys.items };
 
-    ghost invariant = { λ t. AreWithin t.names.items t.keys.items };
+    ghost invariant = { λ t. AreNodeKeyRangesWithin t.names.items t.keys.items };
 }
 
 impl Looking for TriedKeys {
@@ -80,7 +80,7 @@ impl TriedKeys {
     /// Returns the kind of the key at a place.
     pub(crate) fn kind(&self, place: usize) -> Kind
         requires { place < length self.now }
-        ensures { result ≡ (key_at self.now place).kind }
+        ensures { result ≡ (node_key_at self.now place).kind }
     {
         self.keys[place].kind
     }
@@ -88,7 +88,7 @@ impl TriedKeys {
     /// Returns the name of the key at a place.
     pub(crate) fn name(&self, place: usize) -> &[u8]
         requires { place < length self.now }
-        ensures { result.now ≡ (key_at self.now place).name }
+        ensures { result.now ≡ (node_key_at self.now place).name }
     {
         let tried = self.keys[place];
         &self.names[tried.start..tried.end]

@@ -1,13 +1,13 @@
 //! Assigns numbers to the keys that the lookup of a word tried.
 
 ghost use Rattle.std.specs.Prelude.{◌≡◌, ◌<◌, ◌≤◌, ◌-◌, ℕ, List, IfOk, length, take};
-ghost use Rattle.deck.specs.Tables.{table};
-ghost use Rattle.name_lookup.specs.Targets.{last_keys, target_count};
+ghost use Rattle.deck.specs.Tables.{table_of_deck};
+ghost use Rattle.name_lookup.specs.Targets.{last_lookup_keys, lookup_target_count};
 ghost use Rattle.live_table.specs.declared.dead_end.DeadEnd.{DeadEnd};
-ghost use Rattle.live_table.specs.Exploration.{AreAdded, AreListed};
-ghost use Rattle.live_table.specs.WordTargets.{AreGathered, LeadsToKeys};
-ghost use Rattle.live_table.specs.Sound.{AreNumberedNames};
-ghost use Rattle.live_table.specs.TableContents.{key_at, node_lists};
+ghost use Rattle.live_table.specs.Exploration.{AreNodesAdded, IsExplorationAgenda};
+ghost use Rattle.live_table.specs.WordTargets.{AreNodeNumbersGathered, LeadsToNodeKeys};
+ghost use Rattle.live_table.specs.Sound.{AreSoundNodes};
+ghost use Rattle.live_table.specs.TableContents.{node_key_at, node_lists};
 
 use crate::deck_table::DeckTable;
 use crate::nodes::Nodes;
@@ -26,12 +26,13 @@ pub(crate) fn gather_others(
     tried: &TriedKeys,
     targets: Targets,
 ) -> Result<(), AllocError>
-    requires { AreNumberedNames (table deck.now) (node_lists nodes.old) }
+    requires { AreSoundNodes (table_of_deck deck.now) (node_lists nodes.old) }
     ensures added { (before list : List ℕ) (ends : List DeadEnd)
-        → AreListed (table deck.now) (node_lists nodes.old) before list
-        → AreAdded (table deck.now) (node_lists nodes.old) (node_lists nodes.new) before list list ends ends }
-    ensures gathered { IfOk result (λ _. AreGathered nodes.new.keys
-        (take (length tried.now - target_count targets) tried.now)
+        → IsExplorationAgenda (table_of_deck deck.now) (node_lists nodes.old) before list
+        → AreNodesAdded (table_of_deck deck.now) (node_lists nodes.old) (node_lists nodes.new) before list list ends
+        ends }
+    ensures gathered { IfOk result (λ _. AreNodeNumbersGathered nodes.new.keys
+        (take (length tried.now - lookup_target_count targets) tried.now)
         nodes.old.gathered nodes.new.gathered) }
 {
     for place in 0..tried.len().saturating_sub(targets.count()) {
@@ -50,13 +51,15 @@ pub(crate) fn number_targets(
     tried: &TriedKeys,
     targets: Targets,
 ) -> Result<Lead, AllocError>
-    requires nodes { AreNumberedNames (table deck.now) (node_lists nodes.old) }
-    requires enough { target_count targets ≤ length tried.now }
+    requires nodes { AreSoundNodes (table_of_deck deck.now) (node_lists nodes.old) }
+    requires enough { lookup_target_count targets ≤ length tried.now }
     ensures added { (before list : List ℕ) (ends : List DeadEnd)
-        → AreListed (table deck.now) (node_lists nodes.old) before list
-        → AreAdded (table deck.now) (node_lists nodes.old) (node_lists nodes.new) before list list ends ends }
+        → IsExplorationAgenda (table_of_deck deck.now) (node_lists nodes.old) before list
+        → AreNodesAdded (table_of_deck deck.now) (node_lists nodes.old) (node_lists nodes.new) before list list ends
+        ends }
     ensures gathered { nodes.new.gathered ≡ nodes.old.gathered }
-    ensures lead { IfOk result (LeadsToKeys nodes.new.keys (last_keys (target_count targets) tried.now)) }
+    ensures lead { IfOk result
+        (LeadsToNodeKeys nodes.new.keys (last_lookup_keys (lookup_target_count targets) tried.now)) }
 {
     match targets {
         Targets::Nowhere => Ok(Lead::Nowhere),
@@ -80,14 +83,15 @@ fn number_at(
     tried: &TriedKeys,
     place: usize,
 ) -> Result<usize, AllocError>
-    requires nodes { AreNumberedNames (table deck.now) (node_lists nodes.old) }
+    requires nodes { AreSoundNodes (table_of_deck deck.now) (node_lists nodes.old) }
     requires within { place < length tried.now }
     ensures added { (before list : List ℕ) (ends : List DeadEnd)
-        → AreListed (table deck.now) (node_lists nodes.old) before list
-        → AreAdded (table deck.now) (node_lists nodes.old) (node_lists nodes.new) before list list ends ends }
+        → IsExplorationAgenda (table_of_deck deck.now) (node_lists nodes.old) before list
+        → AreNodesAdded (table_of_deck deck.now) (node_lists nodes.old) (node_lists nodes.new) before list list ends
+        ends }
     ensures gathered { nodes.new.gathered ≡ nodes.old.gathered }
     ensures number { IfOk result (λ n. (n < length nodes.new.keys)
-        × (key_at tried.now place ≡ key_at nodes.new.keys n)) }
+        × (node_key_at tried.now place ≡ node_key_at nodes.new.keys n)) }
 {
     number(
         alloc,

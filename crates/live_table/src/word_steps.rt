@@ -1,14 +1,15 @@
 //! Computes the steps of words.
 
 ghost use Rattle.std.specs.Prelude.{◌≡◌, ◌<◌, ◌++◌, ◌∷◌, [], ℕ, List, true, IfOk, length, Contains};
-ghost use Rattle.def_entry.specs.Tables.{Table, is_present};
-ghost use Rattle.deck.specs.Tables.{table};
+ghost use Rattle.def_entry.specs.Tables.{EntryTable, is_entry_present};
+ghost use Rattle.deck.specs.Tables.{table_of_deck};
 ghost use Rattle.live_table.specs.declared.dead_end.DeadEnd as dead_end_spec;
-ghost use Rattle.live_table.specs.Exploration.{AreAdded, AreListed, AreWritten, AreWrittenBehind, IsKnown, IsMore};
-ghost use Rattle.live_table.specs.WordTargets.{is_refused_lead, numbers, steps_to};
-ghost use Rattle.live_table.specs.Looks.{AllLead, AreLooks, AreLooksPut};
-ghost use Rattle.live_table.specs.Sound.{AreNumberedNames};
-ghost use Rattle.live_table.specs.TableContents.{key_at, node_lists};
+ghost use Rattle.live_table.specs.Exploration.{AreExplorationSteps, AreExplorationStepsAfter, AreNodesAdded};
+ghost use Rattle.live_table.specs.Exploration.{IsExplorationAgenda, IsExplorationGrowth, IsKnownToExploration};
+ghost use Rattle.live_table.specs.WordTargets.{is_refused_node_lead, lead_node_numbers, node_steps_of_lead};
+ghost use Rattle.live_table.specs.Looks.{AllNodeStepsLead, AreNodeLooks, AreNodeLooksAdded};
+ghost use Rattle.live_table.specs.Sound.{AreSoundNodes};
+ghost use Rattle.live_table.specs.TableContents.{node_key_at, node_lists};
 
 use crate::dead_end::DeadEnd;
 use crate::nodes::Nodes;
@@ -34,14 +35,15 @@ pub(crate) fn put_words(
     tried: &mut TriedKeys,
     words: &Words<'_>,
 ) -> Result<StepList, AllocError>
-    requires nodes { AreNumberedNames (table deck.now) (node_lists nodes.old) }
-    requires listed { AreListed (table deck.now) (node_lists nodes.old) explored.now worklist.old }
-    ensures added { AreAdded (table deck.now) (node_lists nodes.old) (node_lists nodes.new)
+    requires nodes { AreSoundNodes (table_of_deck deck.now) (node_lists nodes.old) }
+    requires listed { IsExplorationAgenda (table_of_deck deck.now) (node_lists nodes.old) explored.now worklist.old }
+    ensures added { AreNodesAdded (table_of_deck deck.now) (node_lists nodes.old) (node_lists nodes.new)
         explored.now worklist.old worklist.new dead_ends.old.items dead_ends.new.items }
-    ensures written { IfOk result (λ steps. AreWritten (table deck.now) (node_lists nodes.new) explored.now worklist.new
+    ensures written { IfOk result
+        (λ steps. AreExplorationSteps (table_of_deck deck.now) (node_lists nodes.new) explored.now worklist.new
         dead_ends.new.items words.now steps) }
-    ensures looks { IfOk result (λ steps. AllLead steps
-        → AreLooks (table deck.now) nodes.new.keys words.now steps nodes.new.gathered) }
+    ensures looks { IfOk result (λ steps. AllNodeStepsLead steps
+        → AreNodeLooks (table_of_deck deck.now) nodes.new.keys words.now steps nodes.new.gathered) }
 {
     nodes.gathered.clear();
     let mut steps = StepList::new(alloc);
@@ -65,11 +67,12 @@ fn put_word(
     u: &WordUse<'_>,
     steps: &mut StepList,
 ) -> Result<(), AllocError>
-    requires nodes { AreNumberedNames (table deck.now) (node_lists nodes.old) }
-    requires listed { AreListed (table deck.now) (node_lists nodes.old) explored.now worklist.old }
-    ensures added { AreAdded (table deck.now) (node_lists nodes.old) (node_lists nodes.new)
+    requires nodes { AreSoundNodes (table_of_deck deck.now) (node_lists nodes.old) }
+    requires listed { IsExplorationAgenda (table_of_deck deck.now) (node_lists nodes.old) explored.now worklist.old }
+    ensures added { AreNodesAdded (table_of_deck deck.now) (node_lists nodes.old) (node_lists nodes.new)
         explored.now worklist.old worklist.new dead_ends.old.items dead_ends.new.items }
-    ensures written { IfOk result (λ _. AreWrittenBehind (table deck.now) (node_lists nodes.new) explored.now
+    ensures written { IfOk result
+        (λ _. AreExplorationStepsAfter (table_of_deck deck.now) (node_lists nodes.new) explored.now
         worklist.new dead_ends.new.items nodes.old.gathered nodes.new.gathered u.now steps.old steps.new) }
 {
     let word = word_steps(alloc, deck, nodes, explored, worklist, dead_ends, tried, u)?;
@@ -96,14 +99,15 @@ fn word_steps(
     tried: &mut TriedKeys,
     u: &WordUse<'_>,
 ) -> Result<WordSteps, AllocError>
-    requires nodes { AreNumberedNames (table deck.now) (node_lists nodes.old) }
-    requires listed { AreListed (table deck.now) (node_lists nodes.old) explored.now worklist.old }
-    ensures added { AreAdded (table deck.now) (node_lists nodes.old) (node_lists nodes.new)
+    requires nodes { AreSoundNodes (table_of_deck deck.now) (node_lists nodes.old) }
+    requires listed { IsExplorationAgenda (table_of_deck deck.now) (node_lists nodes.old) explored.now worklist.old }
+    ensures added { AreNodesAdded (table_of_deck deck.now) (node_lists nodes.old) (node_lists nodes.new)
         explored.now worklist.old worklist.new dead_ends.old.items dead_ends.new.items }
-    ensures written { IfOk result (λ steps. AreWritten (table deck.now) (node_lists nodes.new) explored.now worklist.new
+    ensures written { IfOk result
+        (λ steps. AreExplorationSteps (table_of_deck deck.now) (node_lists nodes.new) explored.now worklist.new
         dead_ends.new.items (u.now ∷ []) (steps.first ∷ steps.second ∷ [])) }
-    ensures looks { IfOk result (λ steps. AllLead (steps.first ∷ steps.second ∷ [])
-        → AreLooksPut (table deck.now) nodes.new.keys u.now (steps.first ∷ steps.second ∷ [])
+    ensures looks { IfOk result (λ steps. AllNodeStepsLead (steps.first ∷ steps.second ∷ [])
+        → AreNodeLooksAdded (table_of_deck deck.now) nodes.new.keys u.now (steps.first ∷ steps.second ∷ [])
         nodes.old.gathered nodes.new.gathered) }
 {
     let lead = lead_of(alloc, deck, nodes, tried, u)?;
@@ -121,15 +125,17 @@ pub(crate) fn target_steps(
     worklist: &mut Worklist,
     lead: Lead,
 ) -> Result<Option<WordSteps>, AllocError>
-    requires nodes { (table : Table) × AreNumberedNames table (node_lists nodes.now) }
-    requires within { (m : ℕ) → Contains (numbers lead) m → m < length nodes.now.keys }
-    ensures added { (table : Table) (ends : List dead_end_spec.DeadEnd) → AreNumberedNames table (node_lists nodes.now)
-        → AreListed table (node_lists nodes.now) explored.now worklist.old
-        → ((m : ℕ) → Contains (numbers lead) m → is_present table (key_at nodes.now.keys m) ≡ true)
-        → AreAdded table (node_lists nodes.now) (node_lists nodes.now) explored.now worklist.old worklist.new ends ends }
-    ensures known { IfOk result (λ _. (m : ℕ) → Contains (numbers lead) m
-        → IsKnown (node_lists nodes.now) explored.now worklist.new m) }
-    ensures steps { IfOk result (λ steps. steps ≡ steps_to lead) }
+    requires nodes { (table : EntryTable) × AreSoundNodes table (node_lists nodes.now) }
+    requires within { (m : ℕ) → Contains (lead_node_numbers lead) m → m < length nodes.now.keys }
+    ensures added { (table : EntryTable) (ends : List dead_end_spec.DeadEnd)
+        → AreSoundNodes table (node_lists nodes.now)
+        → IsExplorationAgenda table (node_lists nodes.now) explored.now worklist.old
+        → ((m : ℕ) → Contains (lead_node_numbers lead) m → is_entry_present table (node_key_at nodes.now.keys m) ≡ true)
+        → AreNodesAdded table (node_lists nodes.now) (node_lists nodes.now) explored.now worklist.old worklist.new ends
+        ends }
+    ensures known { IfOk result (λ _. (m : ℕ) → Contains (lead_node_numbers lead) m
+        → IsKnownToExploration (node_lists nodes.now) explored.now worklist.new m) }
+    ensures steps { IfOk result (λ steps. steps ≡ node_steps_of_lead lead) }
 {
     match lead {
         Lead::Refused | Lead::Nowhere => Ok(None),
@@ -158,9 +164,9 @@ fn put_dead_end(
     lead: Lead,
     dead_ends: &mut Vec<DeadEnd>,
 ) -> Result<WordSteps, AllocError>
-    ensures more { IsMore dead_ends.old.items dead_ends.new.items }
+    ensures more { IsExplorationGrowth dead_ends.old.items dead_ends.new.items }
     ensures put { IfOk result (λ _. dead_ends.new.items
-        ≡ dead_ends.old.items ++ record { text = u.now.text; is_refused = is_refused_lead lead } ∷ []) }
+        ≡ dead_ends.old.items ++ record { text = u.now.text; is_refused = is_refused_node_lead lead } ∷ []) }
     ensures first { IfOk result (λ steps. steps.first ≡ Step.Nowhere (length dead_ends.old.items)) }
     ensures second { IfOk result (λ steps. steps.second ≡ Step.Nowhere (length dead_ends.old.items)) }
 {

@@ -1,11 +1,11 @@
 //! The targets of a word.
 
 ghost use Rattle.std.specs.Prelude.{◌≡◌, ℕ, List, IfOk};
-ghost use Rattle.deck.specs.Tables.{table};
+ghost use Rattle.deck.specs.Tables.{table_of_deck};
 ghost use Rattle.live_table.specs.declared.dead_end.DeadEnd.{DeadEnd};
-ghost use Rattle.live_table.specs.Exploration.{AreAdded, AreListed};
-ghost use Rattle.live_table.specs.WordTargets.{IsLead, IsQueryLead};
-ghost use Rattle.live_table.specs.Sound.{AreNumberedNames};
+ghost use Rattle.live_table.specs.Exploration.{AreNodesAdded, IsExplorationAgenda};
+ghost use Rattle.live_table.specs.WordTargets.{IsLiveQueryLead, IsNodeLead};
+ghost use Rattle.live_table.specs.Sound.{AreSoundNodes};
 ghost use Rattle.live_table.specs.TableContents.{node_lists};
 
 use crate::deck_table::DeckTable;
@@ -41,11 +41,12 @@ pub(crate) fn lead_of(
     tried: &mut TriedKeys,
     u: &WordUse<'_>,
 ) -> Result<Lead, AllocError>
-    requires { AreNumberedNames (table deck.now) (node_lists nodes.old) }
+    requires { AreSoundNodes (table_of_deck deck.now) (node_lists nodes.old) }
     ensures added { (before list : List ℕ) (ends : List DeadEnd)
-        → AreListed (table deck.now) (node_lists nodes.old) before list
-        → AreAdded (table deck.now) (node_lists nodes.old) (node_lists nodes.new) before list list ends ends }
-    ensures lead { IfOk result (λ lead. IsLead (table deck.now) nodes.new.keys u.now
+        → IsExplorationAgenda (table_of_deck deck.now) (node_lists nodes.old) before list
+        → AreNodesAdded (table_of_deck deck.now) (node_lists nodes.old) (node_lists nodes.new) before list list ends
+        ends }
+    ensures lead { IfOk result (λ lead. IsNodeLead (table_of_deck deck.now) nodes.new.keys u.now
         nodes.old.gathered nodes.new.gathered lead) }
 {
     if is_refused(u.text()) {
@@ -70,11 +71,12 @@ pub(crate) fn query_lead(
     tried: &mut TriedKeys,
     u: &WordUse<'_>,
 ) -> Result<Lead, AllocError>
-    requires { AreNumberedNames (table deck.now) (node_lists nodes.old) }
+    requires { AreSoundNodes (table_of_deck deck.now) (node_lists nodes.old) }
     ensures added { (before list : List ℕ) (ends : List DeadEnd)
-        → AreListed (table deck.now) (node_lists nodes.old) before list
-        → AreAdded (table deck.now) (node_lists nodes.old) (node_lists nodes.new) before list list ends ends }
-    ensures lead { IfOk result (IsQueryLead (table deck.now) nodes.new.keys u.now) }
+        → IsExplorationAgenda (table_of_deck deck.now) (node_lists nodes.old) before list
+        → AreNodesAdded (table_of_deck deck.now) (node_lists nodes.old) (node_lists nodes.new) before list list ends
+        ends }
+    ensures lead { IfOk result (IsLiveQueryLead (table_of_deck deck.now) nodes.new.keys u.now) }
 {
     if is_refused(u.text()) {
         return Ok(Lead::Refused);

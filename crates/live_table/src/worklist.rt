@@ -4,7 +4,7 @@ ghost use Rattle.std.specs.Prelude.{◌≡◌, ◌⊎◌, ◌↔◌, ◌+◌, �
 ghost use Rattle.std.specs.Prelude.{IfOk, IfSome, MatchOption, OnOk, OnErr, Some, false, slice_get, Contains};
 ghost use Rattle.std.specs.List.{IsDistinct};
 ghost use Rattle.name_walk.specs.Faults.{is_on_path};
-ghost use Rattle.live_table.specs.Agendas.{AreSamePlaces};
+ghost use Rattle.live_table.specs.Agendas.{AreSameAgendaPlaces};
 
 use std::alloc::{AllocError, Global};
 use std::marker::Model;
@@ -19,13 +19,13 @@ pub(crate) struct Worklist {
 
 impl Model for Worklist {
     ghost use Rattle.std.specs.Prelude.{List, ℕ};
-    ghost use Rattle.live_table.specs.Agendas.{IsPlaced};
+    ghost use Rattle.live_table.specs.Agendas.{AreAgendaPlaces};
 
     ghost Value = { List ℕ };
 
     ghost view = { λ a. a.numbers.items };
 
-    ghost invariant = { λ a. IsPlaced a.places.items a.numbers.items };
+    ghost invariant = { λ a. AreAgendaPlaces a.places.items a.numbers.items };
 }
 
 impl Worklist {
@@ -118,7 +118,7 @@ impl Worklist {
 // Makes room for the place of a number, which is below `end`. No place changes.
 fn cover(places: &mut Vec<u32>, n: usize, end: usize) -> Result<(), AllocError>
     requires { n < end }
-    ensures same { AreSamePlaces places.old.items places.new.items }
+    ensures same { AreSameAgendaPlaces places.old.items places.new.items }
     ensures ok { OnOk result (n < length places.new.items) }
 {
     if n < places.len() {

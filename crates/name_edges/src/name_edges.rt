@@ -1,9 +1,9 @@
 //! Edges between names.
 
 ghost use Rattle.std.specs.Prelude.{◌≡◌, ◌+◌, ◌<◌, ◌≤◌, ◌++◌, [], ℕ, map, max, Contains, OnOk, OnErr};
-ghost use Rattle.edge_links.specs.Edges.{edge, SameEdges};
+ghost use Rattle.edge_links.specs.Edges.{link_edge, AreSameLinkEdges};
 ghost use Rattle.edge_links.specs.Reach.{AreMarksCleared};
-ghost use Rattle.name_edges.specs.AffectedNames.{ForgetsNames, IsAffectedName};
+ghost use Rattle.name_edges.specs.AffectedNames.{ForgetsNameEdges, IsAffectedByEdges};
 
 use crate::node_marks::NodeMarks;
 use crate::user_edges::link_all;
@@ -21,14 +21,14 @@ pub struct NameEdges {
 }
 
 impl Model for NameEdges {
-    ghost use Rattle.name_edges.specs.NameGraphs.{NameGraph};
-    ghost use Rattle.name_edges.specs.Nodes.{name_graph, AreNodes};
+    ghost use Rattle.name_edges.specs.NameGraphs.{NameEdgeGraph};
+    ghost use Rattle.name_edges.specs.Nodes.{name_edge_graph, AreEdgeNodes};
 
-    ghost Value = { NameGraph };
+    ghost Value = { NameEdgeGraph };
 
-    ghost view = { λ e. name_graph e.links };
+    ghost view = { λ e. name_edge_graph e.links };
 
-    ghost invariant = { λ e. AreNodes e.links };
+    ghost invariant = { λ e. AreEdgeNodes e.links };
 }
 
 impl NameEdges {
@@ -85,8 +85,9 @@ impl NameEdges {
         requires used { (k : ℕ) → Contains used.now k → k < self.old.names }
         requires looked { (k : ℕ) → Contains looked.now k → k < self.old.names }
         ensures names { self.new.names ≡ self.old.names }
-        ensures uses { OnOk result (SameEdges self.new.uses (map (edge user) used.now ++ self.old.uses)) }
-        ensures looks { OnOk result (SameEdges self.new.looks (map (edge user) looked.now ++ self.old.looks)) }
+        ensures uses { OnOk result (AreSameLinkEdges self.new.uses (map (link_edge user) used.now ++ self.old.uses)) }
+        ensures looks { OnOk result
+            (AreSameLinkEdges self.new.looks (map (link_edge user) looked.now ++ self.old.looks)) }
         ensures err { OnErr result (self.new ≡ self.old) }
     {
         self.links.reserve_edges(alloc, used.len() + looked.len())?;
@@ -99,8 +100,8 @@ impl NameEdges {
     /// no memory. The cost is proportional to the number of removed edges.
     pub fn forget<K: Marks>(&mut self, key: usize, names: K) -> K
         requires { key < self.old.names }
-        ensures edges { ForgetsNames (IsAffectedName self.old key) self.old self.new }
-        ensures marks { AreMarksCleared (IsAffectedName self.old key) (K.is_marked names) (K.is_marked result) }
+        ensures edges { ForgetsNameEdges (IsAffectedByEdges self.old key) self.old self.new }
+        ensures marks { AreMarksCleared (IsAffectedByEdges self.old key) (K.is_marked names) (K.is_marked result) }
         ensures rest { K.stays names result }
     {
         let mut marks = NodeMarks { names };

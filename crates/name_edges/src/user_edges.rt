@@ -1,7 +1,7 @@
 //! Edges from one node to several.
 
 ghost use Rattle.std.specs.Prelude.{◌≡◌, ◌+◌, ◌*◌, ◌<◌, ◌≤◌, ◌^◌, ◌++◌, ℕ, map, length, Contains};
-ghost use Rattle.edge_links.specs.Edges.{SameEdges};
+ghost use Rattle.edge_links.specs.Edges.{AreSameLinkEdges};
 ghost use Rattle.name_edges.specs.Nodes.{edge_to};
 
 use edge_links::Links;
@@ -12,7 +12,7 @@ pub(crate) fn link_all(links: &mut Links, user: usize, keys: &[usize], remainder
     requires keys { (k : ℕ) → Contains keys.now k → k * 2 + remainder < links.old.nodes }
     requires fits { links.old.nodes ≤ 2 ^ 64 }
     requires room { length keys.now ≤ links.old.spare }
-    ensures edges { SameEdges links.new.edges (map (edge_to remainder user) keys.now ++ links.old.edges) }
+    ensures edges { AreSameLinkEdges links.new.edges (map (edge_to remainder user) keys.now ++ links.old.edges) }
     ensures spare { links.new.spare + length keys.now ≡ links.old.spare }
     ensures nodes { links.new.nodes ≡ links.old.nodes }
 {

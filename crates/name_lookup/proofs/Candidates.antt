@@ -6,31 +6,32 @@ use Rattle.def_entry.specs.declared.key.Key.{Key}
 use Rattle.def_entry.specs.declared.key.Kind.{Kind}
 use Rattle.def_entry.specs.declared.key.Kind.TheVariants as kind
 use Rattle.def_entry.specs.Keys.{key}
-use Rattle.name_lookup.specs.Candidates.{Found, all_looked_at, first_present, found_targets, part_candidates}
+use Rattle.name_lookup.specs.Candidates.{LookupResult, all_looked_at, first_present, found_targets, part_candidates}
 use Rattle.name_lookup.specs.Candidates.{prefix_candidate}
 use Rattle.name_lookup.specs.Candidates.{prefix_candidates, prefix_candidates_within, singular_candidates}
 use Rattle.name_lookup.specs.Laws.{CandidatesLaw}
 use Rattle.name_lookup.specs.Order.{try_key, try_kinds, try_parts, try_prefixes, try_stem, try_stem_if, with_prefix}
-use Rattle.name_lookup.specs.Plans.{Asks, Gives, LookupPlan, found_after, run}
-use Rattle.name_lookup.specs.Plurals.{has_ending, without_end}
+use Rattle.name_lookup.specs.Plans.{Asks, Gives, LookupPlan, lookup_result_after, run_lookup_plan}
+use Rattle.name_lookup.specs.Plurals.{has_plural_ending, stem_without_end}
 
 module _ (has : Key → Bool) where
   -- a plan has the result of these candidates
   abbrev Tries : LookupPlan → List (List Key) → Type 0
-  Tries p cs = run has p ≡ found_targets has cs
+  Tries p cs = run_lookup_plan has p ≡ found_targets has cs
 
   -- a plan that tries one key tries it as the first candidate
   key_tried : (k : Key) (next : LookupPlan) (cs : List (List Key)) → Tries next cs
       → Tries (try_key k next) ((k ∷ []) ∷ cs)
   key_tried k next cs h = by (has k)
     where
-      by : (b : Bool) → found_after k (cond b (record { targets = k ∷ []; keys_looked_at = [] }) (run has next))
+      by : (b : Bool) → lookup_result_after k
+          (cond b (record { targets = k ∷ []; keys_looked_at = [] }) (run_lookup_plan has next))
           ≡ record {
             targets = cond (b && true) (k ∷ []) (first_present has cs);
             keys_looked_at = (k ∷ cond b [] []) ++ cond (b && true) [] (all_looked_at has cs);
           }
       by true = refl
-      by false = ap (found_after k) h
+      by false = ap (lookup_result_after k) h
 
   -- a plan that tries a prefix with the rest of its word tries the candidate of both
   prefix_tried : (front rest : List ℕ) (next : LookupPlan) (cs : List (List Key)) → Tries next cs
@@ -46,16 +47,17 @@ module _ (has : Key → Bool) where
       u = key kind.Unit (b ∷ bs)
 
       by : (c d : Bool)
-          → found_after p (cond c
-          (found_after u (cond d (record { targets = p ∷ u ∷ []; keys_looked_at = [] }) (run has next)))
-          (run has next))
+          → lookup_result_after p (cond c
+          (lookup_result_after u
+          (cond d (record { targets = p ∷ u ∷ []; keys_looked_at = [] }) (run_lookup_plan has next)))
+          (run_lookup_plan has next))
           ≡ record {
             targets = cond (c && (d && true)) (p ∷ u ∷ []) (first_present has cs);
             keys_looked_at = (p ∷ cond c (u ∷ cond d [] []) []) ++ cond (c && (d && true)) [] (all_looked_at has cs);
           }
       by true true = refl
-      by true false = ap (λ (x : Found). found_after p (found_after u x)) h
-      by false d = ap (found_after p) h
+      by true false = ap (λ (x : LookupResult). lookup_result_after p (lookup_result_after u x)) h
+      by false d = ap (lookup_result_after p) h
 
   -- a plan that tries the prefixes of a word tries their candidates
   prefixes_tried : (k : ℕ) (word : List ℕ) (next : LookupPlan) (cs : List (List Key)) → Tries next cs
@@ -102,8 +104,9 @@ module _ (has : Key → Bool) where
       key_tried (key one word) (try_key (key two word) (try_parts word (Gives [])))
       ((key two word ∷ []) ∷ part_candidates word)
       (key_tried (key two word) (try_parts word (Gives [])) (part_candidates word)
-      (three_tried (has_ending 2 (codes "s") word) (has_ending 3 (codes "es") word) (has_ending 4 (codes "ies") word)
-      (without_end 1 word) (without_end 2 word) (without_end 3 word ++ codes "y")
+      (three_tried (has_plural_ending 2 (codes "s") word) (has_plural_ending 3 (codes "es") word)
+      (has_plural_ending 4 (codes "ies") word)
+      (stem_without_end 1 word) (stem_without_end 2 word) (stem_without_end 3 word ++ codes "y")
       (try_prefixes (length word) word (Gives []))
       (prefix_candidates word)
       (subst (λ (x : List (List Key)). Tries (try_prefixes (length word) word (Gives [])) x)

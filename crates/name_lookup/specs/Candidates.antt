@@ -1,7 +1,6 @@
 -- Lookup as a list of candidates. A candidate is one key, or a prefix and a unit; a word refers to the first candidate
 -- whose keys are all present.
-use Rattle.std.specs.Prelude.{◌≡◌, ℕ, zero, suc, Bool, List, [], ◌∷◌, ◌++◌, length, take, drop, flat_map}
-use Rattle.std.specs.Prelude.{if◌then◌else◌}
+use Rattle.std.specs.Prelude.{◌≡◌, ℕ, zero, suc, Bool, List, [], ◌∷◌, ◌++◌, length, take, drop, flat_map, if◌then◌else◌}
 use Rattle.std.specs.List.{list_all}
 use Rattle.expr_tree.specs.declared.word_list.WordKind.{WordKind}
 use Rattle.expr_tree.specs.declared.word_list.WordKind.TheVariants as place
@@ -12,7 +11,7 @@ use Rattle.name_lookup.specs.Plurals.{singulars}
 
 -- the keys that a word refers to (one key, a prefix and a unit, or no key if the word is unknown), and the keys that
 -- were looked at, in order, including absent ones
-pub record Found : Type 0 where
+pub record LookupResult : Type 0 where
   pub targets : List Key
   pub keys_looked_at : List Key
 
@@ -63,5 +62,5 @@ module _ (has : Key → Bool) where
   all_looked_at (c ∷ cs) = keys_looked_at c ++ (if list_all has c then [] else all_looked_at cs)
 
   -- the targets of a list of candidates, and the keys that are looked at to find them
-  abbrev pub found_targets : List (List Key) → Found
+  abbrev pub found_targets : List (List Key) → LookupResult
   found_targets cs = record { targets = first_present cs; keys_looked_at = all_looked_at cs }

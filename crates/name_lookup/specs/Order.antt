@@ -1,6 +1,5 @@
 -- The order in which the keys of a word are looked up, as a plan.
-use Rattle.std.specs.Prelude.{ℕ, zero, suc, Bool, true, false}
-use Rattle.std.specs.Prelude.{List, [], ◌∷◌, ◌++◌, length, take, drop, codes}
+use Rattle.std.specs.Prelude.{ℕ, zero, suc, Bool, true, false, List, [], ◌∷◌, ◌++◌, length, take, drop, codes}
 use Rattle.expr_tree.specs.declared.word_list.WordKind.{WordKind}
 use Rattle.expr_tree.specs.declared.word_list.WordKind.TheVariants as place
 use Rattle.def_entry.specs.declared.key.Key.{Key}
@@ -8,7 +7,7 @@ use Rattle.def_entry.specs.declared.key.Kind.{Kind}
 use Rattle.def_entry.specs.declared.key.Kind.TheVariants as kind
 use Rattle.def_entry.specs.Keys.{key}
 use Rattle.name_lookup.specs.Plans.{LookupPlan, Gives, Asks}
-pub use Rattle.name_lookup.specs.Plurals.{has_ending, without_end}
+pub use Rattle.name_lookup.specs.Plurals.{has_plural_ending, stem_without_end}
 
 -- looks up a key, which is the target if it is present
 abbrev pub try_key : Key → LookupPlan → LookupPlan
@@ -43,9 +42,9 @@ try_stem_if false stem next = next
 -- tries the words of which the word may be the plural
 abbrev pub try_stems : List ℕ → LookupPlan → LookupPlan
 try_stems word next =
-    try_stem_if (has_ending 2 (codes "s") word) (without_end 1 word)
-    (try_stem_if (has_ending 3 (codes "es") word) (without_end 2 word)
-    (try_stem_if (has_ending 4 (codes "ies") word) (without_end 3 word ++ codes "y") next))
+    try_stem_if (has_plural_ending 2 (codes "s") word) (stem_without_end 1 word)
+    (try_stem_if (has_plural_ending 3 (codes "es") word) (stem_without_end 2 word)
+    (try_stem_if (has_plural_ending 4 (codes "ies") word) (stem_without_end 3 word ++ codes "y") next))
 
 -- tries the stems of a word, and then the prefixes of the word itself
 abbrev pub try_parts : List ℕ → LookupPlan → LookupPlan
@@ -63,5 +62,5 @@ try_word place.Call word next = try_kinds kind.Func kind.Unit word next
 try_word place.Inverse word next = try_key (key kind.Func word) next
 
 -- the plan of a word
-abbrev pub plan : WordKind → List ℕ → LookupPlan
-plan at word = try_word at word (Gives [])
+abbrev pub lookup_plan : WordKind → List ℕ → LookupPlan
+lookup_plan at word = try_word at word (Gives [])

@@ -1,13 +1,13 @@
 //! The order in which the keys of a word are looked up.
 
 ghost use Rattle.std.specs.Prelude.{◌++◌, codes, IfOk, length};
-ghost use Rattle.def_entry.specs.SameKeys.{is_key_among};
+ghost use Rattle.def_entry.specs.SameKeys.{is_entry_key_among};
 ghost use Rattle.name_lookup.specs.Candidates as lookup;
-ghost use Rattle.name_lookup.specs.LookupRelations.{StaysKept};
+ghost use Rattle.name_lookup.specs.LookupRelations.{IsKeptByLookup};
 ghost use Rattle.name_lookup.specs.Order as spec;
-ghost use Rattle.name_lookup.specs.Plans.{run};
-ghost use Rattle.name_lookup.specs.Steps.{IsTaken};
-ghost use Rattle.name_lookup.specs.Targets.{AreFound};
+ghost use Rattle.name_lookup.specs.Plans.{run_lookup_plan};
+ghost use Rattle.name_lookup.specs.Steps.{IsLookupStepTaken};
+ghost use Rattle.name_lookup.specs.Targets.{AreLookupTargetsFound};
 
 use crate::key_search::Search;
 use crate::lookup_record::Looking;
@@ -33,12 +33,12 @@ pub fn resolve<P: Present, L: Looking>(
     kind: WordKind,
 ) -> Result<Targets, AllocError>
     requires { L.can_look (P.keys table.now) looking.old }
-    ensures chosen { IfOk result (λ targets. AreFound targets (L.looked looking.old) (L.looked looking.new)
-        (lookup.found_targets (is_key_among (P.keys table.now)) (lookup.candidates kind word.now))) }
-    ensures found { IfOk result (λ targets. AreFound targets (L.looked looking.old) (L.looked looking.new)
-        (run (is_key_among (P.keys table.now)) (spec.plan kind word.now))) }
+    ensures chosen { IfOk result (λ targets. AreLookupTargetsFound targets (L.looked looking.old) (L.looked looking.new)
+        (lookup.found_targets (is_entry_key_among (P.keys table.now)) (lookup.candidates kind word.now))) }
+    ensures found { IfOk result (λ targets. AreLookupTargetsFound targets (L.looked looking.old) (L.looked looking.new)
+        (run_lookup_plan (is_entry_key_among (P.keys table.now)) (spec.lookup_plan kind word.now))) }
     ensures ready { L.can_look (P.keys table.now) looking.new }
-    ensures kept { StaysKept (L.is_kept (P.keys table.now)) looking.old looking.new }
+    ensures kept { IsKeptByLookup (L.is_kept (P.keys table.now)) looking.old looking.new }
 {
     let search = Search { alloc, table };
     search.try_word(looking, word, kind)
@@ -53,10 +53,10 @@ impl<'a, P: Present> Search<'a, P> {
         kind: WordKind,
     ) -> Result<Targets, AllocError>
         requires { L.can_look (P.keys self.now.table.now) looking.old }
-        ensures taken { IfOk result (λ targets. IsTaken (is_key_among (P.keys self.now.table.now))
+        ensures taken { IfOk result (λ targets. IsLookupStepTaken (is_entry_key_among (P.keys self.now.table.now))
             (spec.try_word kind word.now) (L.looked looking.old) (L.looked looking.new) targets) }
         ensures ready { L.can_look (P.keys self.now.table.now) looking.new }
-        ensures kept { StaysKept (L.is_kept (P.keys self.now.table.now)) looking.old looking.new }
+        ensures kept { IsKeptByLookup (L.is_kept (P.keys self.now.table.now)) looking.old looking.new }
     {
         match kind {
             WordKind::Plain => self.try_kinds(looking, word, Kind::Unit, Kind::Func),
@@ -74,10 +74,10 @@ impl<'a, P: Present> Search<'a, P> {
         second: Kind,
     ) -> Result<Targets, AllocError>
         requires { L.can_look (P.keys self.now.table.now) looking.old }
-        ensures taken { IfOk result (λ targets. IsTaken (is_key_among (P.keys self.now.table.now))
+        ensures taken { IfOk result (λ targets. IsLookupStepTaken (is_entry_key_among (P.keys self.now.table.now))
             (spec.try_kinds first second word.now) (L.looked looking.old) (L.looked looking.new) targets) }
         ensures ready { L.can_look (P.keys self.now.table.now) looking.new }
-        ensures kept { StaysKept (L.is_kept (P.keys self.now.table.now)) looking.old looking.new }
+        ensures kept { IsKeptByLookup (L.is_kept (P.keys self.now.table.now)) looking.old looking.new }
     {
         let targets = self.try_key(looking, first, word)?;
         if targets.are_some() {
@@ -93,10 +93,10 @@ impl<'a, P: Present> Search<'a, P> {
     // Tries the stems of the word, and then the prefixes of the word itself.
     fn try_parts<L: Looking>(&self, looking: &mut L, word: &[u8]) -> Result<Targets, AllocError>
         requires { L.can_look (P.keys self.now.table.now) looking.old }
-        ensures taken { IfOk result (λ targets. IsTaken (is_key_among (P.keys self.now.table.now))
+        ensures taken { IfOk result (λ targets. IsLookupStepTaken (is_entry_key_among (P.keys self.now.table.now))
             (spec.try_parts word.now) (L.looked looking.old) (L.looked looking.new) targets) }
         ensures ready { L.can_look (P.keys self.now.table.now) looking.new }
-        ensures kept { StaysKept (L.is_kept (P.keys self.now.table.now)) looking.old looking.new }
+        ensures kept { IsKeptByLookup (L.is_kept (P.keys self.now.table.now)) looking.old looking.new }
     {
         let targets = self.try_stems(looking, word)?;
         if targets.are_some() {
@@ -108,10 +108,10 @@ impl<'a, P: Present> Search<'a, P> {
     // Tries the stems of the word: without `s`, without `es`, and with `y` instead of `ies`.
     fn try_stems<L: Looking>(&self, looking: &mut L, word: &[u8]) -> Result<Targets, AllocError>
         requires { L.can_look (P.keys self.now.table.now) looking.old }
-        ensures taken { IfOk result (λ targets. IsTaken (is_key_among (P.keys self.now.table.now))
+        ensures taken { IfOk result (λ targets. IsLookupStepTaken (is_entry_key_among (P.keys self.now.table.now))
             (spec.try_stems word.now) (L.looked looking.old) (L.looked looking.new) targets) }
         ensures ready { L.can_look (P.keys self.now.table.now) looking.new }
-        ensures kept { StaysKept (L.is_kept (P.keys self.now.table.now)) looking.old looking.new }
+        ensures kept { IsKeptByLookup (L.is_kept (P.keys self.now.table.now)) looking.old looking.new }
     {
         let targets = self.try_without(looking, word, 2, b"s")?;
         if targets.are_some() {
@@ -133,12 +133,12 @@ impl<'a, P: Present> Search<'a, P> {
         ending: &[u8],
     ) -> Result<Targets, AllocError>
         requires { L.can_look (P.keys self.now.table.now) looking.old }
-        ensures taken { IfOk result (λ targets. IsTaken (is_key_among (P.keys self.now.table.now))
-            (spec.try_stem_if (spec.has_ending more ending.now word.now)
-            (spec.without_end (length ending.now) word.now))
+        ensures taken { IfOk result (λ targets. IsLookupStepTaken (is_entry_key_among (P.keys self.now.table.now))
+            (spec.try_stem_if (spec.has_plural_ending more ending.now word.now)
+            (spec.stem_without_end (length ending.now) word.now))
             (L.looked looking.old) (L.looked looking.new) targets) }
         ensures ready { L.can_look (P.keys self.now.table.now) looking.new }
-        ensures kept { StaysKept (L.is_kept (P.keys self.now.table.now)) looking.old looking.new }
+        ensures kept { IsKeptByLookup (L.is_kept (P.keys self.now.table.now)) looking.old looking.new }
     {
         match without_ending(word, more, ending) {
             Some(stem) => self.try_stem(looking, stem),
@@ -149,11 +149,11 @@ impl<'a, P: Present> Search<'a, P> {
     // Tries the word with `y` instead of its final `ies`, if it has more than four bytes and ends in `ies`.
     fn try_with_y<L: Looking>(&self, looking: &mut L, word: &[u8]) -> Result<Targets, AllocError>
         requires { L.can_look (P.keys self.now.table.now) looking.old }
-        ensures taken { IfOk result (λ targets. IsTaken (is_key_among (P.keys self.now.table.now))
-            (spec.try_stem_if (spec.has_ending 4 (codes "ies") word.now) (spec.without_end 3 word.now ++ codes "y"))
-            (L.looked looking.old) (L.looked looking.new) targets) }
+        ensures taken { IfOk result (λ targets. IsLookupStepTaken (is_entry_key_among (P.keys self.now.table.now))
+            (spec.try_stem_if (spec.has_plural_ending 4 (codes "ies") word.now)
+            (spec.stem_without_end 3 word.now ++ codes "y")) (L.looked looking.old) (L.looked looking.new) targets) }
         ensures ready { L.can_look (P.keys self.now.table.now) looking.new }
-        ensures kept { StaysKept (L.is_kept (P.keys self.now.table.now)) looking.old looking.new }
+        ensures kept { IsKeptByLookup (L.is_kept (P.keys self.now.table.now)) looking.old looking.new }
     {
         let Some(front) = without_ending(word, 4, b"ies") else {
             return Ok(Targets::Nowhere);

@@ -2,12 +2,12 @@
 
 ghost use Rattle.std.specs.Prelude.{◌≡◌, ◌++◌, ◌∷◌, [], ◌<◌, IfOk, length, take, drop};
 ghost use Rattle.def_entry.specs.Keys.{key};
-ghost use Rattle.def_entry.specs.SameKeys.{is_key_among};
+ghost use Rattle.def_entry.specs.SameKeys.{is_entry_key_among};
 ghost use Rattle.def_entry.specs.declared.key.Kind.TheVariants as kinds;
-ghost use Rattle.name_lookup.specs.LookupRelations.{StaysKept};
+ghost use Rattle.name_lookup.specs.LookupRelations.{IsKeptByLookup};
 ghost use Rattle.name_lookup.specs.Order as spec;
 ghost use Rattle.name_lookup.specs.Plans.{Asks};
-ghost use Rattle.name_lookup.specs.Steps.{IsTaken};
+ghost use Rattle.name_lookup.specs.Steps.{IsLookupStepTaken};
 
 use crate::lookup_record::Looking;
 use crate::present::Present;
@@ -31,10 +31,10 @@ impl<'a, P: Present> Search<'a, P> {
         name: &[u8],
     ) -> Result<Targets, AllocError>
         requires { L.can_look (P.keys self.now.table.now) looking.old }
-        ensures taken { IfOk result (λ targets. IsTaken (is_key_among (P.keys self.now.table.now))
+        ensures taken { IfOk result (λ targets. IsLookupStepTaken (is_entry_key_among (P.keys self.now.table.now))
             (spec.try_key (key kind name.now)) (L.looked looking.old) (L.looked looking.new) targets) }
         ensures ready { L.can_look (P.keys self.now.table.now) looking.new }
-        ensures kept { StaysKept (L.is_kept (P.keys self.now.table.now)) looking.old looking.new }
+        ensures kept { IsKeptByLookup (L.is_kept (P.keys self.now.table.now)) looking.old looking.new }
     {
         if looking.look(self.alloc, self.table, kind, name)? {
             return Ok(Targets::Last);
@@ -49,10 +49,10 @@ impl<'a, P: Present> Search<'a, P> {
         word: &[u8],
     ) -> Result<Targets, AllocError>
         requires { L.can_look (P.keys self.now.table.now) looking.old }
-        ensures taken { IfOk result (λ targets. IsTaken (is_key_among (P.keys self.now.table.now))
+        ensures taken { IfOk result (λ targets. IsLookupStepTaken (is_entry_key_among (P.keys self.now.table.now))
             (spec.try_prefixes (length word.now) word.now) (L.looked looking.old) (L.looked looking.new) targets) }
         ensures ready { L.can_look (P.keys self.now.table.now) looking.new }
-        ensures kept { StaysKept (L.is_kept (P.keys self.now.table.now)) looking.old looking.new }
+        ensures kept { IsKeptByLookup (L.is_kept (P.keys self.now.table.now)) looking.old looking.new }
     {
         let mut len = word.len();
         while len > 0 {
@@ -74,12 +74,12 @@ impl<'a, P: Present> Search<'a, P> {
         rest: &[u8],
     ) -> Result<Targets, AllocError>
         requires { L.can_look (P.keys self.now.table.now) looking.old }
-        ensures taken { IfOk result (λ targets. IsTaken (is_key_among (P.keys self.now.table.now))
+        ensures taken { IfOk result (λ targets. IsLookupStepTaken (is_entry_key_among (P.keys self.now.table.now))
             (λ next. Asks (key kinds.Prefix front.now)
             (spec.with_prefix (key kinds.Prefix front.now) rest.now next) next)
             (L.looked looking.old) (L.looked looking.new) targets) }
         ensures ready { L.can_look (P.keys self.now.table.now) looking.new }
-        ensures kept { StaysKept (L.is_kept (P.keys self.now.table.now)) looking.old looking.new }
+        ensures kept { IsKeptByLookup (L.is_kept (P.keys self.now.table.now)) looking.old looking.new }
     {
         if !looking.look(self.alloc, self.table, Kind::Prefix, front)? {
             return Ok(Targets::Nowhere);
@@ -100,10 +100,10 @@ impl<'a, P: Present> Search<'a, P> {
         stem: &[u8],
     ) -> Result<Targets, AllocError>
         requires { L.can_look (P.keys self.now.table.now) looking.old }
-        ensures taken { IfOk result (λ targets. IsTaken (is_key_among (P.keys self.now.table.now))
+        ensures taken { IfOk result (λ targets. IsLookupStepTaken (is_entry_key_among (P.keys self.now.table.now))
             (spec.try_stem stem.now) (L.looked looking.old) (L.looked looking.new) targets) }
         ensures ready { L.can_look (P.keys self.now.table.now) looking.new }
-        ensures kept { StaysKept (L.is_kept (P.keys self.now.table.now)) looking.old looking.new }
+        ensures kept { IsKeptByLookup (L.is_kept (P.keys self.now.table.now)) looking.old looking.new }
     {
         let targets = self.try_key(looking, Kind::Unit, stem)?;
         if targets.are_some() {

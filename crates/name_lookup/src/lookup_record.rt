@@ -3,8 +3,8 @@
 ghost use Rattle.std.specs.Prelude.{◌≡◌, ◌++◌, ◌∷◌, [], IfOk, List};
 ghost use Rattle.def_entry.specs.Keys.{key};
 ghost use Rattle.def_entry.specs.declared.key.Key.{Key};
-ghost use Rattle.def_entry.specs.SameKeys.{is_key_among};
-ghost use Rattle.name_lookup.specs.LookupRelations.{StaysKept};
+ghost use Rattle.def_entry.specs.SameKeys.{is_entry_key_among};
+ghost use Rattle.name_lookup.specs.LookupRelations.{IsKeptByLookup};
 
 use crate::present::Present;
 use def_entry::Kind;
@@ -31,8 +31,8 @@ pub trait Looking {
         name: &[u8],
     ) -> Result<bool, AllocError>
         requires { can_look (P.keys table.now) self.old }
-        ensures answer { IfOk result (λ present. present ≡ is_key_among (P.keys table.now) (key kind name.now)) }
+        ensures answer { IfOk result (λ present. present ≡ is_entry_key_among (P.keys table.now) (key kind name.now)) }
         ensures looked { IfOk result (λ _. looked self.new ≡ looked self.old ++ key kind name.now ∷ []) }
         ensures ready { can_look (P.keys table.now) self.new }
-        ensures kept { StaysKept (is_kept (P.keys table.now)) self.old self.new };
+        ensures kept { IsKeptByLookup (is_kept (P.keys table.now)) self.old self.new };
 }

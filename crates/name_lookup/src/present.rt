@@ -4,7 +4,7 @@ ghost use Rattle.std.specs.Option.{is_some};
 ghost use Rattle.std.specs.Prelude.{◌≡◌, ℕ, List, Option};
 ghost use Rattle.def_entry.specs.Keys.{key};
 ghost use Rattle.def_entry.specs.declared.key.Key.{Key};
-ghost use Rattle.def_entry.specs.SameKeys.{is_key_among};
+ghost use Rattle.def_entry.specs.SameKeys.{is_entry_key_among};
 
 use def_entry::Kind;
 
@@ -19,6 +19,6 @@ pub trait Present {
     /// Returns the place of the key with this kind and name, in the table's own numbering, or `None` if the key is not
     /// present.
     fn find(&self, kind: Kind, name: &[u8]) -> Option<usize>
-        ensures present { is_some result ≡ is_key_among (keys self.now) (key kind name.now) }
+        ensures present { is_some result ≡ is_entry_key_among (keys self.now) (key kind name.now) }
         ensures place { result ≡ place self.now (key kind name.now) };
 }

@@ -17,7 +17,7 @@ pub enum Targets {
 impl Targets {
     /// Returns the number of keys: 0, 1 or 2.
     pub fn count(self) -> usize
-        ensures { result ≡ spec.target_count self }
+        ensures { result ≡ spec.lookup_target_count self }
     {
         match self {
             Targets::Nowhere => 0,

@@ -4,19 +4,19 @@ use Rattle.std.specs.Prelude.{Contains}
 use Rattle.expr_tree.specs.declared.word_list.WordUse.{WordUse}
 use Rattle.expr_tree.specs.Names.{is_refused}
 use Rattle.def_entry.specs.declared.key.Key.{Key}
-use Rattle.def_entry.specs.Tables.{Table, is_present}
+use Rattle.def_entry.specs.Tables.{EntryTable, is_entry_present}
 use Rattle.name_walk.specs.declared.step.Step.{Step}
 use Rattle.name_walk.specs.declared.step.Step.TheVariants.{Nowhere, To}
 use Rattle.name_walk.specs.Faults as walk
-use Rattle.name_walk.specs.Steps.{Graph, LeadsTo, steps}
+use Rattle.name_walk.specs.Steps.{Graph, GraphLeadsTo, graph_steps}
 use Rattle.table_names.specs.declared.fault.NameFault.{NameFault}
 use Rattle.table_names.specs.declared.fault.NameFault.TheVariants.{Unknown, Refused, Cycle}
-use Rattle.table_names.specs.Leads.{targets}
-use Rattle.table_names.specs.Words.{key_words}
+use Rattle.table_names.specs.Leads.{table_word_targets}
+use Rattle.table_names.specs.Words.{table_words_of_key}
 
 -- key: the key of each number; dead_end: the fault of each word that leads nowhere, given the key whose entry includes
 -- the word
-module _ (table : Table) (key : ℕ → Key) (dead_end : ℕ → Option Key → NameFault) where
+module _ (table : EntryTable) (key : ℕ → Key) (dead_end : ℕ → Option Key → NameFault) where
   -- the name fault for a fault of numbers
   abbrev pub fault_by_name : walk.NameFault → NameFault
   fault_by_name (walk.DeadEnd t holder) = dead_end t (option_map key holder)
@@ -27,10 +27,11 @@ module _ (table : Table) (key : ℕ → Key) (dead_end : ℕ → Option Key → 
   pub data IsWord (u : WordUse) : Step → Step → Type 0 where
     ForRefused : (t : ℕ) → is_refused u.text ≡ true
         → ((holder : Option Key) → dead_end t holder ≡ Refused u.text holder) → IsWord u (Nowhere t) (Nowhere t)
-    ForUnknown : (t : ℕ) → is_refused u.text ≡ false → targets table u ≡ []
+    ForUnknown : (t : ℕ) → is_refused u.text ≡ false → table_word_targets table u ≡ []
         → ((holder : Option Key) → dead_end t holder ≡ Unknown u.text holder) → IsWord u (Nowhere t) (Nowhere t)
-    ForOne : (n : ℕ) → is_refused u.text ≡ false → targets table u ≡ key n ∷ [] → IsWord u (To n) (To n)
-    ForTwo : (n m : ℕ) → is_refused u.text ≡ false → targets table u ≡ key n ∷ key m ∷ [] → IsWord u (To n) (To m)
+    ForOne : (n : ℕ) → is_refused u.text ≡ false → table_word_targets table u ≡ key n ∷ [] → IsWord u (To n) (To n)
+    ForTwo : (n m : ℕ) → is_refused u.text ≡ false → table_word_targets table u ≡ key n ∷ key m ∷ []
+        → IsWord u (To n) (To m)
 
   -- the steps of words, one word after another
   abbrev pub AreWords : List WordUse → List Step → Type 0
@@ -42,11 +43,11 @@ module _ (table : Table) (key : ℕ → Key) (dead_end : ℕ → Option Key → 
   -- the words of their keys
   pub record AreNumbered (g : Graph) (known : ℕ → Bool) : Type 0 where
     pub known_in_range : (n : ℕ) → known n ≡ true → n < length g
-    pub below_known : (n m : ℕ) → known n ≡ true → LeadsTo g n m → known m ≡ true
+    pub below_known : (n m : ℕ) → known n ≡ true → GraphLeadsTo g n m → known m ≡ true
     pub keys_apart : (n m : ℕ) → known n ≡ true → known m ≡ true → key n ≡ key m → n ≡ m
-    pub known_have_entries : (n : ℕ) → known n ≡ true → is_present table (key n) ≡ true
-    pub known_steps : (n : ℕ) → known n ≡ true → AreWords (key_words table (key n)) (steps g n)
+    pub known_have_entries : (n : ℕ) → known n ≡ true → is_entry_present table (key n) ≡ true
+    pub known_steps : (n : ℕ) → known n ≡ true → AreWords (table_words_of_key table (key n)) (graph_steps g n)
 
 -- the steps lead only to known numbers, or nowhere
-abbrev pub LeadToKnown : (ℕ → Bool) → List Step → Type 0
-LeadToKnown known xs = (n : ℕ) → Contains xs (To n) → known n ≡ true
+abbrev pub LeadToKnownNumbers : (ℕ → Bool) → List Step → Type 0
+LeadToKnownNumbers known xs = (n : ℕ) → Contains xs (To n) → known n ≡ true

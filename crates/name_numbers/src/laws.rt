@@ -1,16 +1,16 @@
 //! Laws of numbered names, and of a walk over the numbered names of a table.
 
-ghost use Rattle.name_numbers.specs.EdgeLaws.{AffectedNumbersLaw};
-ghost use Rattle.name_numbers.specs.FaultLaws.{NumberedFaultLaw};
-ghost use Rattle.name_numbers.specs.LookupLaws.{FewTargetsLaw};
-ghost use Rattle.name_numbers.specs.RankLaws.{RankLaw};
-ghost use Rattle.name_numbers.specs.SettlingLaws.{SettlingLaw};
+ghost use Rattle.name_numbers.specs.EdgeLaws.{AffectedNumberedNamesLaw};
+ghost use Rattle.name_numbers.specs.FaultLaws.{NumberedNameFaultLaw};
+ghost use Rattle.name_numbers.specs.LookupLaws.{FewNumberedTargetsLaw};
+ghost use Rattle.name_numbers.specs.RankLaws.{NumberedNameRankLaw};
+ghost use Rattle.name_numbers.specs.SettlingLaws.{NumberedNameSettlingLaw};
 
 use def_entry::same_keys_law;
 
 /// The first fault of numbered names is the name fault.
 pub fn numbered_fault_law()
-    ensures { NumberedFaultLaw }
+    ensures { NumberedNameFaultLaw }
 {
     same_keys_law();
     name_walk::fault_law();
@@ -21,7 +21,7 @@ pub fn numbered_fault_law()
 
 /// The numbers that a walk newly closes are those of the names that the query newly settles.
 pub fn settling_law()
-    ensures { SettlingLaw }
+    ensures { NumberedNameSettlingLaw }
 {
     same_keys_law();
     table_names::closed_law();
@@ -29,15 +29,15 @@ pub fn settling_law()
 
 /// A word has no target, one target, or a prefix and a unit as targets.
 pub fn few_targets_law()
-    ensures { FewTargetsLaw }
+    ensures { FewNumberedTargetsLaw }
 {}
 
 /// The rank of the meaning of a key is at most the number of entries of the table.
 pub fn rank_law()
-    ensures { RankLaw }
+    ensures { NumberedNameRankLaw }
 {}
 
 /// A change of keys affects the same names by the edges between numbers as by the words of names.
 pub fn affected_numbers_law()
-    ensures { AffectedNumbersLaw }
+    ensures { AffectedNumberedNamesLaw }
 {}

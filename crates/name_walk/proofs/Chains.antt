@@ -3,37 +3,39 @@ use Rattle.std.proofs.Common.{◌≡◌, ℕ, Bool, true, false, cond, ◌||◌,
 use Rattle.std.proofs.Common.{inl, inr, nat_eq, append_assoc}
 use Rattle.std.proofs.lemmas.Bool.{eqb-true, eq-eqb, or_cases, or_parts}
 use Rattle.name_walk.specs.declared.traces.Frame.{Frame}
-use Rattle.name_walk.specs.Faults.{from_name, is_on_path}
-use Rattle.name_walk.specs.Traces.{path}
+use Rattle.name_walk.specs.Faults.{is_on_path, path_from_name}
+use Rattle.name_walk.specs.Traces.{path_of_frames}
 
 -- if one of two tests holds, the first value is chosen
-chosen : {A : Type 0} (b e : Bool) (x y : A) → (b || e) ≡ true → cond b x (cond e x y) ≡ x
-chosen true e x y h = refl
-chosen false true x y h = refl
-chosen false false x y h = cc
+either_test_chooses_first : {A : Type 0} (b e : Bool) (x y : A) → (b || e) ≡ true → cond b x (cond e x y) ≡ x
+either_test_chooses_first true e x y h = refl
+either_test_chooses_first false true x y h = refl
+either_test_chooses_first false false x y h = cc
 
 -- if neither of two tests holds, the second value is chosen
-passed : {A : Type 0} (b e : Bool) (x y : A) → (b || e) ≡ false → cond b x (cond e x y) ≡ y
-passed true e x y h = cc
-passed false true x y h = cc
-passed false false x y h = refl
+neither_test_chooses_second : {A : Type 0} (b e : Bool) (x y : A) → (b || e) ≡ false → cond b x (cond e x y) ≡ y
+neither_test_chooses_second true e x y h = cc
+neither_test_chooses_second false true x y h = cc
+neither_test_chooses_second false false x y h = refl
 
 module _ (again last : ℕ) where
   -- the names taken so far and the names from the remaining frames are together the wanted names; until the name
   -- `again` is met, it is still ahead
   pub record IsChaining (all : List ℕ) (names : List ℕ) (is_below : Bool) (rest : List Frame) : Type 0 where
-    pub whole : names ++ cond is_below (path rest last) (from_name again (path rest last)) ≡ all
-    pub ahead : (is_below || is_on_path (path rest last) again) ≡ true
+    pub whole : names ++ cond is_below (path_of_frames rest last)
+        (path_from_name again (path_of_frames rest last)) ≡ all
+    pub ahead : (is_below || is_on_path (path_of_frames rest last) again) ≡ true
 
   pub chaining_keep : (all names more : List ℕ) (b : Bool) (f : Frame) (rest : List Frame)
       → IsChaining all names b (f ∷ rest)
       → (b || nat_eq f.name again) ≡ true → more ≡ names ++ f.name ∷ []
       → IsChaining all more (b || nat_eq f.name again) rest
   chaining_keep all names more b f rest h met e = subst (λ (x : Bool). IsChaining all more x rest) (sym met) (record {
-    whole = ap (λ xs. xs ++ path rest last) e
-        ∙ (append_assoc names (f.name ∷ []) (path rest last)
+    whole = ap (λ xs. xs ++ path_of_frames rest last) e
+        ∙ (append_assoc names (f.name ∷ []) (path_of_frames rest last)
         ∙ (ap (λ xs. names ++ xs)
-        (sym (chosen b (nat_eq f.name again) (f.name ∷ path rest last) (from_name again (path rest last)) met))
+        (sym (either_test_chooses_first b (nat_eq f.name again) (f.name ∷ path_of_frames rest last)
+        (path_from_name again (path_of_frames rest last)) met))
         ∙ h.whole));
     ahead = refl;
   })
@@ -43,9 +45,10 @@ module _ (again last : ℕ) where
       → (b || nat_eq f.name again) ≡ false → more ≡ names → IsChaining all more (b || nat_eq f.name again) rest
   chaining_pass all names more b f rest h unmet e =
       subst (λ (x : Bool). IsChaining all more x rest) (sym unmet) (record {
-        whole = ap (λ xs. xs ++ from_name again (path rest last)) e
+        whole = ap (λ xs. xs ++ path_from_name again (path_of_frames rest last)) e
             ∙ (ap (λ xs. names ++ xs)
-            (sym (passed b (nat_eq f.name again) (f.name ∷ path rest last) (from_name again (path rest last)) unmet))
+            (sym (neither_test_chooses_second b (nat_eq f.name again) (f.name ∷ path_of_frames rest last)
+            (path_from_name again (path_of_frames rest last)) unmet))
             ∙ h.whole);
         ahead = still_ahead;
       })
@@ -56,15 +59,16 @@ module _ (again last : ℕ) where
           let not : nat_eq f.name again ≡ false = (or_parts b (nat_eq f.name again) unmet).1 in
           cc
 
-      still_ahead : is_on_path (path rest last) again ≡ true
-      still_ahead = elim (or_cases b (is_on_path (path (f ∷ rest) last) again) h.ahead) [
+      still_ahead : is_on_path (path_of_frames rest last) again ≡ true
+      still_ahead = elim (or_cases b (is_on_path (path_of_frames (f ∷ rest) last) again) h.ahead) [
         | inl q ↦ absurd (let n : b ≡ false = (or_parts b (nat_eq f.name again) unmet).0 in cc)
-        | inr q ↦ elim (or_cases (nat_eq again f.name) (is_on_path (path rest last) again) q)
+        | inr q ↦ elim (or_cases (nat_eq again f.name) (is_on_path (path_of_frames rest last) again) q)
             [ inl o ↦ absurd (other o) | inr o ↦ o ]
       ]
 
   pub chaining_end : (all names : List ℕ) (b : Bool) → IsChaining all names b [] → names ++ last ∷ [] ≡ all
-  chaining_end all names b h = ap (λ xs. names ++ xs) (sym (chosen b (nat_eq last again) (last ∷ []) [] met)) ∙ h.whole
+  chaining_end all names b h =
+      ap (λ xs. names ++ xs) (sym (either_test_chooses_first b (nat_eq last again) (last ∷ []) [] met)) ∙ h.whole
     where
       at_last : (c : Bool) → (b || c) ≡ true → (c ≡ true → nat_eq last again ≡ true) → (b || nat_eq last again) ≡ true
       at_last c q f = elim (or_cases b c q) [ inl t ↦ ap (λ x. x || nat_eq last again) t | inr t ↦ or_second b (f t) ]

@@ -19,11 +19,11 @@ pub record IsSplit (xs : List ℕ) (n : ℕ) : Type 0 where
   pub back : List ℕ
   pub whole : xs ≡ front ++ n ∷ back
 
-pub split_at : (xs : List ℕ) (n : ℕ) → Contains xs n → IsSplit xs n
-split_at [] n i = absurd (no_member n i)
-split_at (x ∷ xs) n i = elim (member_cases n x xs i) [
+pub path_splits_at_name : (xs : List ℕ) (n : ℕ) → Contains xs n → IsSplit xs n
+path_splits_at_name [] n i = absurd (no_member n i)
+path_splits_at_name (x ∷ xs) n i = elim (member_cases n x xs i) [
   | inl e ↦ record { front = []; back = xs; whole = ap (λ (y : ℕ). y ∷ xs) (sym e) }
-  | inr j ↦ let r = split_at xs n j in
+  | inr j ↦ let r = path_splits_at_name xs n j in
       record { front = x ∷ r.front; back = r.back; whole = ap (λ (ys : List ℕ). x ∷ ys) r.whole }
 ]
 

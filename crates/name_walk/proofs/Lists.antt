@@ -30,9 +30,9 @@ all_at P xs x h i = All-contains P xs x (All-from_recursion P xs h) i
 
 -- ---- elements
 -- a number that is not a member, and is not the appended number, is not a member afterwards
-pub on-push_false : (ks : List ℕ) (x k : ℕ) → is_on_path ks k ≡ false → (k ≡ x → ⊥)
+pub name_stays_off_pushed_path : (ks : List ℕ) (x k : ℕ) → is_on_path ks k ≡ false → (k ≡ x → ⊥)
     → is_on_path (ks ++ x ∷ []) k ≡ false
-on-push_false ks x k h ne = list_any-append (nat_eq k) ks (x ∷ [])
+name_stays_off_pushed_path ks x k h ne = list_any-append (nat_eq k) ks (x ∷ [])
     ∙ or_from _ _ h (or_from (nat_eq k x) false (ne_eqb k x ne) refl)
 
 -- ---- parts

@@ -7,7 +7,7 @@ use Rattle.std.proofs.lemmas.Option.{slice_get_within}
 use Rattle.std.proofs.lemmas.List.Elements.{Contains-append_left, Contains-push, Contains-push_cases}
 use Rattle.name_walk.specs.declared.mark.Mark.{Mark}
 use Rattle.name_walk.specs.declared.mark.Mark.TheVariants.{Open}
-use Rattle.name_walk.specs.Traces.{AreEntered}
+use Rattle.name_walk.specs.Traces.{AreWalkNamesEntered}
 use Rattle.general_lemmas.proofs.Places.{get_set_same, get_set_other}
 
 -- the names with one mark are those of a list
@@ -15,9 +15,10 @@ abbrev pub AreMarked : Mark → List Mark → List ℕ → Type 0
 AreMarked v ms xs = (n : ℕ) → (slice_get ms n ≡ Some v) ↔ Contains xs n
 
 -- a name with another mark is not in the list of the names with this mark
-pub other_mark : (v w : Mark) (ms : List Mark) (xs : List ℕ) → AreMarked v ms xs → (Some w ≡ Some v → ⊥)
+pub walk_marks_exclude_each_other : (v w : Mark) (ms : List Mark) (xs : List ℕ) → AreMarked v ms xs
+    → (Some w ≡ Some v → ⊥)
     → (n : ℕ) → slice_get ms n ≡ Some w → Contains xs n → ⊥
-other_mark v w ms xs marked ne n e i = ne (sym e ∙ (marked n).1 i)
+walk_marks_exclude_each_other v w ms xs marked ne n e i = ne (sym e ∙ (marked n).1 i)
 
 module _ (ms : List Mark) (n : ℕ) (there : n < length ms) where
   now_at : (w : Mark) (k : ℕ) → k ≡ n → slice_get (set ms n w) k ≡ Some w
@@ -71,8 +72,8 @@ module _ (ms : List Mark) (n : ℕ) (there : n < length ms) where
       ]
 
   -- ---- entered names
-  pub entered_again : (v : Mark) (names : List ℕ) → Contains names n → AreEntered ms names
-      → AreEntered (set ms n v) names
+  pub entered_again : (v : Mark) (names : List ℕ) → Contains names n → AreWalkNamesEntered ms names
+      → AreWalkNamesEntered (set ms n v) names
   entered_again v names i h = record {
     names_within = λ k j. subst (λ (x : ℕ). k < x) (sym (length-set ms n v)) (h.names_within k j);
     open_or_listed = λ k l. elim (cases_eq k n) [
@@ -82,7 +83,8 @@ module _ (ms : List Mark) (n : ℕ) (there : n < length ms) where
     ];
   }
 
-  pub entered_push : (v : Mark) (names : List ℕ) → AreEntered ms names → AreEntered (set ms n v) (names ++ n ∷ [])
+  pub entered_push : (v : Mark) (names : List ℕ) → AreWalkNamesEntered ms names → AreWalkNamesEntered (set ms n v)
+      (names ++ n ∷ [])
   entered_push v names h = entered_again v (names ++ n ∷ []) (Contains-push names n) (record {
     names_within = λ k i. elim (Contains-push_cases names n k i)
         [ inl j ↦ h.names_within k j | inr e ↦ subst (λ (x : ℕ). x < length ms) e there ];
@@ -91,7 +93,8 @@ module _ (ms : List Mark) (n : ℕ) (there : n < length ms) where
   })
 
   -- reopening the last entered name removes it from the entered names
-  pub entered_pop : (names : List ℕ) → AreEntered ms (names ++ n ∷ []) → AreEntered (set ms n Open) names
+  pub entered_pop : (names : List ℕ) → AreWalkNamesEntered ms (names ++ n ∷ [])
+      → AreWalkNamesEntered (set ms n Open) names
   entered_pop names h = record {
     names_within = λ k i. subst (λ (x : ℕ). k < x) (sym (length-set ms n Open))
         (h.names_within k (Contains-append_left names (n ∷ []) k i));
@@ -105,7 +108,8 @@ module _ (ms : List Mark) (n : ℕ) (there : n < length ms) where
   }
 
 -- a name with a mark other than open is an entered name
-pub entered_in : (v : Mark) → (Some v ≡ Some Open → ⊥) → (ms : List Mark) (names : List ℕ) (n : ℕ) → AreEntered ms names
+pub marked_name_was_entered_by_walk : (v : Mark) → (Some v ≡ Some Open → ⊥) → (ms : List Mark) (names : List ℕ) (n : ℕ)
+    → AreWalkNamesEntered ms names
     → slice_get ms n ≡ Some v → Contains names n
-entered_in v differ ms names n h e =
+marked_name_was_entered_by_walk v differ ms names n h e =
     elim (h.open_or_listed n (slice_get_within ms n v e)) [ inl o ↦ absurd (differ (sym e ∙ o)) | inr i ↦ i ]

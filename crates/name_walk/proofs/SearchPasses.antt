@@ -6,18 +6,20 @@ use Rattle.std.proofs.lemmas.List.{take_all}
 use Rattle.std.proofs.lemmas.List.Elements.{Contains-append_left, Contains-push}
 use Rattle.name_walk.specs.declared.step.Step.{Step}
 use Rattle.name_walk.specs.declared.step.Step.TheVariants.{Nowhere, To}
-use Rattle.name_walk.specs.Faults.{Cycle, DeadEnd, NameFault, at_step, from_name, name_fault_within, steps_fault}
-use Rattle.name_walk.specs.Findings.{AreFromQuery, IsFirstFaulty}
+use Rattle.name_walk.specs.Faults.{Cycle, DeadEnd, NameFault, path_fault_at_step, path_fault_within, path_from_name}
+use Rattle.name_walk.specs.Faults.{steps_fault_after_path}
+use Rattle.name_walk.specs.Findings.{AreWalkedFromQuery, IsFirstFaultyWalkStep}
 use Rattle.name_walk.specs.Nets.{IsConsistentGraph}
-use Rattle.name_walk.specs.NewlyClosed.{IsReached}
-use Rattle.name_walk.specs.Searches.{AreMore, IsBetween, IsSearched}
+use Rattle.name_walk.specs.NewlyClosed.{IsReachedInGraph}
+use Rattle.name_walk.specs.Searches.{AreMoreWalkFindings, IsBetweenWalkSearches, IsSearchedByWalk}
 use Rattle.name_walk.specs.Steps.{Graph}
-use Rattle.name_walk.specs.Traces.{Trace}
-use Rattle.name_walk.specs.Trails.{AreFindings, AreTrails, EndsAt, Faults, FollowsFaults, IsFaulty, IsTrail}
+use Rattle.name_walk.specs.Traces.{WalkTrace}
+use Rattle.name_walk.specs.Trails.{AreWalkFindings, AreWalkTrails, Faults, FaultyWalkEndsAt, FollowsFaultyWalk}
+use Rattle.name_walk.specs.Trails.{IsFaultyInWalk, IsWalkTrail}
 use Rattle.name_walk.proofs.ClosedPaths.{name_closed}
 use Rattle.name_walk.proofs.Faults.{empty_path}
 use Rattle.name_walk.proofs.Lists.{first_push}
-use Rattle.name_walk.proofs.QueryPasses.{fault_next}
+use Rattle.name_walk.proofs.QueryPasses.{next_step_fault_is_walk_fault}
 use Rattle.name_walk.proofs.Trails.{dead_end_fault, is_closed, ring_fault}
 use Rattle.name_walk.proofs.Members.{take_member}
 use Rattle.general_lemmas.proofs.Places.{take_at}
@@ -26,70 +28,75 @@ use Rattle.general_lemmas.proofs.Members.{no_member}
 -- the fault of a name that has one
 pub record HasFault (g : Graph) (n : ℕ) : Type 0 where
   pub own : NameFault
-  pub is : steps_fault g [] (To n ∷ []) ≡ Some own
+  pub is : steps_fault_after_path g [] (To n ∷ []) ≡ Some own
 
 -- these steps of a query have no fault
-pub record ArePassedBy (g : Graph) (s : List Bool) (query : List Step) (old now : Trace) (fs : Faults) : Type 0 where
-  pub between : IsBetween g s now fs
-  pub none : steps_fault g [] query ≡ None
-  pub names : AreFromQuery g s query old.entered_names now.entered_names
+pub record ArePassedBy (g : Graph) (s : List Bool) (query : List Step) (old now : WalkTrace) (fs : Faults) : Type 0
+  where
+    pub between : IsBetweenWalkSearches g s now fs
+    pub none : steps_fault_after_path g [] query ≡ None
+    pub names : AreWalkedFromQuery g s query old.entered_names now.entered_names
 
 module _ (g : Graph) (s : List Bool) (net : IsConsistentGraph g s) where
-  trail_has : (os : List ℕ) (fs : Faults) → AreFindings g s os fs → (n e : ℕ) (t : IsTrail fs n e) (x : Step)
+  trail_has : (os : List ℕ) (fs : Faults) → AreWalkFindings g s os fs → (n e : ℕ) (t : IsWalkTrail fs n e) (x : Step)
       → t.step ≡ x → HasFault g n
   trail_has os fs are n e t (Nowhere w) is = record {
     own = DeadEnd w (Some e);
     is = dead_end_fault g s net os fs are n t.names w e
-        (subst (λ (y : Step). FollowsFaults fs n t.names y) is t.follows_faults)
+        (subst (λ (y : Step). FollowsFaultyWalk fs n t.names y) is t.follows_faults)
         t.names_differ
-        (subst (λ (y : Step). EndsAt (n ∷ t.names) y e) is t.ends_at);
+        (subst (λ (y : Step). FaultyWalkEndsAt (n ∷ t.names) y e) is t.ends_at);
   }
   trail_has os fs are n e t (To m) is =
-      let end : (m ≡ e) × Contains (n ∷ t.names) e = subst (λ (y : Step). EndsAt (n ∷ t.names) y e) is t.ends_at in
+      let end : (m ≡ e) × Contains (n ∷ t.names) e = subst (λ (y : Step). FaultyWalkEndsAt (n ∷ t.names) y e) is
+      t.ends_at in
       record {
-        own = Cycle (from_name e (n ∷ t.names) ++ e ∷ []);
+        own = Cycle (path_from_name e (n ∷ t.names) ++ e ∷ []);
         is = ring_fault g s net os fs are n t.names e
-            (subst (λ (y : Step). FollowsFaults fs n t.names y) (is ∙ ap To end.0) t.follows_faults) t.names_differ
+            (subst (λ (y : Step). FollowsFaultyWalk fs n t.names y) (is ∙ ap To end.0) t.follows_faults) t.names_differ
             end.1;
       }
 
-  pub has_fault : (os : List ℕ) (fs : Faults) → AreFindings g s os fs → AreTrails fs → (n : ℕ) → IsFaulty fs n
+  pub has_fault : (os : List ℕ) (fs : Faults) → AreWalkFindings g s os fs → AreWalkTrails fs → (n : ℕ)
+      → IsFaultyInWalk fs n
       → HasFault g n
   has_fault os fs are trails n f =
       let t = trails.trails n f.0 f.1 in trail_has os fs are n f.0.end t t.step refl
 
-  pub passed_none : (t : Trace) (fs : Faults) → IsBetween g s t fs → ArePassedBy g s [] t t fs
+  pub passed_none : (t : WalkTrace) (fs : Faults) → IsBetweenWalkSearches g s t fs → ArePassedBy g s [] t t fs
   passed_none t fs b = record { between = b; none = refl; names = λ n i. inl i }
 
-  reached_more : (query : List Step) (x : Step) (n : ℕ) → IsReached g query n → IsReached g (query ++ x ∷ []) n
+  reached_more : (query : List Step) (x : Step) (n : ℕ) → IsReachedInGraph g query n
+      → IsReachedInGraph g (query ++ x ∷ []) n
   reached_more query x n w = (w.0, Contains-append_left query (x ∷ []) (To w.0) w.1, w.2)
 
   -- after one more name is searched, each known name was known before or is reached by the query
-  names_more : (query : List Step) (n : ℕ) (old now later : Trace) (fs hs : Faults)
-      → AreFromQuery g s query old.entered_names now.entered_names → AreMore g s n now later fs hs
-      → AreFromQuery g s (query ++ To n ∷ []) old.entered_names later.entered_names
+  names_more : (query : List Step) (n : ℕ) (old now later : WalkTrace) (fs hs : Faults)
+      → AreWalkedFromQuery g s query old.entered_names now.entered_names → AreMoreWalkFindings g s n now later fs hs
+      → AreWalkedFromQuery g s (query ++ To n ∷ []) old.entered_names later.entered_names
   names_more query n old now later fs hs names more k i = elim (more.names k i) [
     | inl j ↦ elim (names k j) [ inl q ↦ inl q | inr r ↦ inr (reached_more query (To n) k r.0, r.1) ]
     | inr r ↦ inr ((n, Contains-push query (To n), r.0), r.1)
   ]
 
-  names_whole : (query : List Step) (i : ℕ) (old now : List ℕ) → AreFromQuery g s (take i query) old now
-      → AreFromQuery g s query old now
+  names_whole : (query : List Step) (i : ℕ) (old now : List ℕ) → AreWalkedFromQuery g s (take i query) old now
+      → AreWalkedFromQuery g s query old now
   names_whole query i old now names n j = elim (names n j) [
     | inl q ↦ inl q
     | inr r ↦ inr ((r.0.0, take_member i query (To r.0.0) r.0.1, r.0.2), r.1)
   ]
 
-  module _ (query : List Step) (i : ℕ) (old now : Trace) (fs : Faults) (p : ArePassedBy g s (take i query) old now fs)
+  module _ (query : List Step) (i : ℕ) (old now : WalkTrace) (fs : Faults)
+      (p : ArePassedBy g s (take i query) old now fs)
     where
       -- a step to a name without a fault is passed
-      pub passed_next : (n : ℕ) → slice_get query i ≡ Some (To n) → n < length g → (later : Trace) (hs : Faults)
-          → IsSearched g s n now later fs hs false → ArePassedBy g s (take (i + 1) query) old later hs
+      pub passed_next : (n : ℕ) → slice_get query i ≡ Some (To n) → n < length g → (later : WalkTrace) (hs : Faults)
+          → IsSearchedByWalk g s n now later fs hs false → ArePassedBy g s (take (i + 1) query) old later hs
       passed_next n e there later hs h =
           subst (λ (xs : List Step). ArePassedBy g s xs old later hs) (sym (take_at query i (To n) e))
           (record {
             between = h.state_between;
-            none = first_push (at_step (name_fault_within g (length g - 0)) []) (take i query) (To n) p.none
+            none = first_push (path_fault_at_step (path_fault_within g (length g - 0)) []) (take i query) (To n) p.none
                 ∙ name_closed g net.steps_in_range (length g) [] n
                 (is_closed g s net later.order hs h.state_between.findings_right n h.decision) there (empty_path g)
                 (λ q j. absurd (no_member q j));
@@ -97,41 +104,42 @@ module _ (g : Graph) (s : List Bool) (net : IsConsistentGraph g s) where
           })
 
       -- a step that leads nowhere is the first faulty step
-      pub passed_nowhere : (w : ℕ) → slice_get query i ≡ Some (Nowhere w) → IsFirstFaulty g query fs (Some (Nowhere w))
+      pub passed_nowhere : (w : ℕ) → slice_get query i ≡ Some (Nowhere w) → IsFirstFaultyWalkStep g query fs
+          (Some (Nowhere w))
       passed_nowhere w e = (
         record {
           fault_there = DeadEnd w None;
           of_step = refl;
-          of_query = fault_next g query i (Nowhere w) (DeadEnd w None) p.none e refl;
+          of_query = next_step_fault_is_walk_fault g query i (Nowhere w) (DeadEnd w None) p.none e refl;
         },
         tt,
       )
 
-      pub passed_names : AreFromQuery g s query old.entered_names now.entered_names
+      pub passed_names : AreWalkedFromQuery g s query old.entered_names now.entered_names
       passed_names = names_whole query i old.entered_names now.entered_names p.names
 
       -- the next step leads to a name with a fault
-      module _ (n : ℕ) (e : slice_get query i ≡ Some (To n)) (later : Trace) (hs : Faults)
-          (h : IsSearched g s n now later fs hs true) where
-        pub passed_faulty : IsFirstFaulty g query hs (Some (To n))
+      module _ (n : ℕ) (e : slice_get query i ≡ Some (To n)) (later : WalkTrace) (hs : Faults)
+          (h : IsSearchedByWalk g s n now later fs hs true) where
+        pub passed_faulty : IsFirstFaultyWalkStep g query hs (Some (To n))
         passed_faulty =
             let f : HasFault g n =
             has_fault later.order hs h.state_between.findings_right h.state_between.consistent.trails n h.decision in (
               record {
                 fault_there = f.own;
                 of_step = f.is;
-                of_query = fault_next g query i (To n) f.own p.none e f.is;
+                of_query = next_step_fault_is_walk_fault g query i (To n) f.own p.none e f.is;
               },
               h.decision,
             )
 
-        pub faulty_names : AreFromQuery g s query old.entered_names later.entered_names
+        pub faulty_names : AreWalkedFromQuery g s query old.entered_names later.entered_names
         faulty_names =
             names_whole query (i + 1) old.entered_names later.entered_names
-            (subst (λ (xs : List Step). AreFromQuery g s xs old.entered_names later.entered_names)
+            (subst (λ (xs : List Step). AreWalkedFromQuery g s xs old.entered_names later.entered_names)
             (sym (take_at query i (To n) e))
             (names_more (take i query) n old now later fs hs p.names h.more))
 
       -- if all steps are passed, the query has no fault
-      pub passed_whole : length query ≤ i → steps_fault g [] query ≡ None
-      passed_whole end = subst (λ (xs : List Step). steps_fault g [] xs ≡ None) (take_all i query end) p.none
+      pub passed_whole : length query ≤ i → steps_fault_after_path g [] query ≡ None
+      passed_whole end = subst (λ (xs : List Step). steps_fault_after_path g [] xs ≡ None) (take_all i query end) p.none

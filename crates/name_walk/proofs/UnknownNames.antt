@@ -1,18 +1,17 @@
 -- Added names, about which nothing is known.
 use Rattle.std.proofs.Common.{◌≡◌, ◌⊎◌, ℕ, zero, suc, ◌+◌, ◌-◌, ◌<◌, ◌≤◌, Bool, List, [], ◌∷◌, ◌++◌, length, take}
-use Rattle.std.proofs.Common.{replicate}
-use Rattle.std.proofs.Common.{Some, refl, sym, ◌∙◌, ap, subst, inl, inr, arith, length-append, Contains}
+use Rattle.std.proofs.Common.{replicate, Some, refl, sym, ◌∙◌, ap, subst, inl, inr, arith, length-append, Contains}
 use Rattle.std.specs.List.{slice_get}
 use Rattle.std.proofs.lemmas.List.{length-replicate, take_all}
 use Rattle.std.proofs.lemmas.Option.{slice_get_within}
 use Rattle.name_walk.specs.declared.mark.Mark.{Mark}
 use Rattle.name_walk.specs.declared.mark.Mark.TheVariants.{Closed, OnPath, Open}
-use Rattle.name_walk.specs.Findings.{CanClear, IsConsistent}
-use Rattle.name_walk.specs.Searches.{AreFaultsCovered, AreMarksCovered, IsBetween}
+use Rattle.name_walk.specs.Findings.{CanClearWalk, IsConsistentWalkTrace}
+use Rattle.name_walk.specs.Searches.{AreWalkFaultsCovered, AreWalkMarksCovered, IsBetweenWalkSearches}
 use Rattle.name_walk.specs.Steps.{Graph}
-use Rattle.name_walk.specs.Traces.{AreEntered, Trace, trace_with_names}
-use Rattle.name_walk.specs.Trails.{AreFindings, Faults, IsFaulty, IsTrail}
-use Rattle.name_walk.proofs.Trails.{follows_same}
+use Rattle.name_walk.specs.Traces.{AreWalkNamesEntered, WalkTrace, walk_trace_with_names}
+use Rattle.name_walk.specs.Trails.{AreWalkFindings, Faults, IsFaultyInWalk, IsWalkTrail}
+use Rattle.name_walk.proofs.Trails.{faulty_walk_stays}
 
 module _ {A : Type 0} (v : A) where
   -- each element of a list of copies is the copied element
@@ -65,8 +64,8 @@ element_at (x ∷ xs) zero l = record { value = x; is = refl }
 element_at (x ∷ xs) (suc i) l = let r = element_at xs i (omega arith) in record { value = r.value; is = r.is }
 
 -- marks cover themselves
-pub marks_same : (t : Trace) → AreMarksCovered t t
-marks_same t = record {
+pub walk_marks_cover_themselves : (t : WalkTrace) → AreWalkMarksCovered t t
+walk_marks_cover_themselves t = record {
   marks = λ n m d e. e;
   names_entered = λ h. h;
   names = refl;
@@ -74,9 +73,9 @@ marks_same t = record {
   frames = refl;
 }
 
-entered_longer : (ms : List Mark) (es : List ℕ) (n : ℕ) → length ms ≤ n → AreEntered ms es
-    → AreEntered (take n ms ++ replicate (n - length ms) Open) es
-entered_longer ms es n l h = record {
+entered_stays_with_more_walk_marks : (ms : List Mark) (es : List ℕ) (n : ℕ) → length ms ≤ n → AreWalkNamesEntered ms es
+    → AreWalkNamesEntered (take n ms ++ replicate (n - length ms) Open) es
+entered_stays_with_more_walk_marks ms es n l h = record {
   names_within = λ k i. let a : k < length ms = h.names_within k i in
       let b : length (take n ms ++ replicate (n - length ms) Open) ≡ n = longer_length Open ms n l in omega arith;
   open_or_listed = λ k j. let r = element_at (take n ms ++ replicate (n - length ms) Open) k j in
@@ -90,27 +89,29 @@ entered_longer ms es n l h = record {
 }
 
 -- marks for more names cover marks
-pub marks_longer : (n : ℕ) (t : Trace) → length t.marks ≤ n → AreMarksCovered t (trace_with_names n t)
-marks_longer n t l = record {
+pub more_walk_marks_cover_marks : (n : ℕ) (t : WalkTrace) → length t.marks ≤ n
+    → AreWalkMarksCovered t (walk_trace_with_names n t)
+more_walk_marks_cover_marks n t l = record {
   marks = λ k m d e. elim (of_longer Open t.marks n k m l e) [ inl q ↦ q | inr q ↦ absurd (d q) ];
-  names_entered = entered_longer t.marks t.entered_names n l;
+  names_entered = entered_stays_with_more_walk_marks t.marks t.entered_names n l;
   names = refl;
   order = refl;
   frames = refl;
 }
 
-pub faults_same : (fs : Faults) → AreFaultsCovered fs fs
-faults_same fs = record { new_faults = λ n c e. e; old_faults = λ n c e. e; fault_list_grows = omega arith }
+pub walk_faults_cover_themselves : (fs : Faults) → AreWalkFaultsCovered fs fs
+walk_faults_cover_themselves fs =
+    record { new_faults = λ n c e. e; old_faults = λ n c e. e; fault_list_grows = omega arith }
 
 -- ---- what is known after names are added
-module _ (old new : Trace) (fs hs : Faults) (m : AreMarksCovered old new) (f : AreFaultsCovered fs hs) where
-  is_old : (n : ℕ) → IsFaulty hs n → IsFaulty fs n
+module _ (old new : WalkTrace) (fs hs : Faults) (m : AreWalkMarksCovered old new) (f : AreWalkFaultsCovered fs hs) where
+  is_old : (n : ℕ) → IsFaultyInWalk hs n → IsFaultyInWalk fs n
   is_old n h = (h.0, f.new_faults n h.0 h.1)
 
-  is_new : (n : ℕ) → IsFaulty fs n → IsFaulty hs n
+  is_new : (n : ℕ) → IsFaultyInWalk fs n → IsFaultyInWalk hs n
   is_new n h = (h.0, f.old_faults n h.0 h.1)
 
-  pub covered_clear : CanClear old.marks old.entered_names fs → CanClear new.marks new.entered_names hs
+  pub covered_clear : CanClearWalk old.marks old.entered_names fs → CanClearWalk new.marks new.entered_names hs
   covered_clear h = record {
     names_entered = m.names_entered h.names_entered;
     names_within = λ n i. let a : n < length fs = h.names_within n (subst (λ (es : List ℕ). Contains es n) m.names i) in
@@ -118,16 +119,16 @@ module _ (old new : Trace) (fs hs : Faults) (m : AreMarksCovered old new) (f : A
     faulty_entered = λ n g. subst (λ (es : List ℕ). Contains es n) (sym m.names) (h.faulty_entered n (is_old n g));
   }
 
-  trail_new : (n e : ℕ) → IsTrail fs n e → IsTrail hs n e
+  trail_new : (n e : ℕ) → IsWalkTrail fs n e → IsWalkTrail hs n e
   trail_new n e t = record {
     names = t.names;
     step = t.step;
-    follows_faults = follows_same fs hs f.old_faults n t.names t.step t.follows_faults;
+    follows_faults = faulty_walk_stays fs hs f.old_faults n t.names t.step t.follows_faults;
     names_differ = t.names_differ;
     ends_at = t.ends_at;
   }
 
-  pub covered_consistent : IsConsistent old fs → IsConsistent new hs
+  pub covered_consistent : IsConsistentWalkTrace old fs → IsConsistentWalkTrace new hs
   covered_consistent k = record {
     can_clear = covered_clear k.can_clear;
     marked_in_order = λ n e. subst (λ (os : List ℕ). Contains os n) (sym m.order)
@@ -142,13 +143,14 @@ module _ (old new : Trace) (fs hs : Faults) (m : AreMarksCovered old new) (f : A
     frames = m.frames ∙ k.frames;
   }
 
-  pub covered_findings : (g : Graph) (s : List Bool) → AreFindings g s old.order fs → AreFindings g s new.order hs
+  pub covered_findings : (g : Graph) (s : List Bool) → AreWalkFindings g s old.order fs
+      → AreWalkFindings g s new.order hs
   covered_findings g s are =
-      subst (λ (os : List ℕ). AreFindings g s os hs) (sym m.order)
+      subst (λ (os : List ℕ). AreWalkFindings g s os hs) (sym m.order)
       (record { names_sound = are.names_sound; first_faults = λ n c e. are.first_faults n c (f.new_faults n c e) })
 
-  pub covered_between : (g : Graph) (s : List Bool) → IsConsistent old fs → AreFindings g s old.order fs
-      → length g ≤ length new.marks → length g ≤ length hs → IsBetween g s new hs
+  pub covered_between : (g : Graph) (s : List Bool) → IsConsistentWalkTrace old fs → AreWalkFindings g s old.order fs
+      → length g ≤ length new.marks → length g ≤ length hs → IsBetweenWalkSearches g s new hs
   covered_between g s k are ms fs_size = record {
     findings_right = covered_findings g s are;
     consistent = covered_consistent k;

@@ -9,12 +9,13 @@ use Rattle.std.proofs.lemmas.Option.{slice_get_within}
 use Rattle.std.proofs.lemmas.List.Elements.{Contains-push_cases}
 use Rattle.name_walk.specs.declared.mark.Mark.{Mark}
 use Rattle.name_walk.specs.declared.mark.Mark.TheVariants.{Closed, OnPath, Open}
-use Rattle.name_walk.specs.ClosedNames.{IsClosedName, IsDone, IsSettled}
+use Rattle.name_walk.specs.ClosedNames.{IsClosedInGraph, IsSettledInGraph, IsSettledOrWalked}
 use Rattle.name_walk.specs.Faults.{is_on_path}
-use Rattle.name_walk.specs.Steps.{Graph, LeadsTo}
-use Rattle.name_walk.specs.Traces.{AreOpen}
-use Rattle.name_walk.specs.Visits.{AreOrdering}
-use Rattle.name_walk.proofs.Marks.{entered_again, entered_in, entered_push, marked_push, marked_same, other_mark}
+use Rattle.name_walk.specs.Steps.{Graph, GraphLeadsTo}
+use Rattle.name_walk.specs.Traces.{AreWalkMarksOpen}
+use Rattle.name_walk.specs.Visits.{AreInWalkOrder}
+use Rattle.name_walk.proofs.Marks.{entered_again, entered_push, marked_name_was_entered_by_walk, marked_push}
+use Rattle.name_walk.proofs.Marks.{marked_same, walk_marks_exclude_each_other}
 use Rattle.name_walk.proofs.DoneNames.{ordered_push}
 use Rattle.name_walk.proofs.Members.{on_path_member}
 use Rattle.general_lemmas.proofs.Properties.{nothing_twice}
@@ -27,7 +28,7 @@ either_new {P} xs x f p n i = elim (Contains-push_cases xs x n i) [ inl j ↦ f 
 
 module _ (g : Graph) (s : List Bool) where
   -- at the start no name is closed
-  pub ordering_start : (ms : List Mark) → length ms ≡ length g → AreOpen ms → AreOrdering g s ms [] []
+  pub ordering_start : (ms : List Mark) → length ms ≡ length g → AreWalkMarksOpen ms → AreInWalkOrder g s ms [] []
   ordering_start ms size are_open = record {
     mark_per_name = size;
     marked_in_order = λ n. (
@@ -42,14 +43,15 @@ module _ (g : Graph) (s : List Bool) where
   }
 
   -- an open name is put on the path
-  pub ordering_enter : (ms : List Mark) (es os : List ℕ) (n : ℕ) → AreOrdering g s ms es os → slice_get ms n ≡ Some Open
-      → AreOrdering g s (set ms n OnPath) (es ++ n ∷ []) os
+  pub ordering_enter : (ms : List Mark) (es os : List ℕ) (n : ℕ) → AreInWalkOrder g s ms es os
+      → slice_get ms n ≡ Some Open
+      → AreInWalkOrder g s (set ms n OnPath) (es ++ n ∷ []) os
   ordering_enter ms es os n h is_open =
       let there : n < length ms = slice_get_within ms n Open is_open in
       record {
         mark_per_name = length-set ms n OnPath ∙ h.mark_per_name;
         marked_in_order = marked_same ms n there Closed OnPath os h.marked_in_order (λ e. cc)
-            (other_mark Closed Open ms os h.marked_in_order (λ e. cc) n is_open);
+            (walk_marks_exclude_each_other Closed Open ms os h.marked_in_order (λ e. cc) n is_open);
         names_closed = h.names_closed;
         names_not_settled = h.names_not_settled;
         names_differ = h.names_differ;
@@ -58,21 +60,23 @@ module _ (g : Graph) (s : List Bool) where
       }
 
   -- a name on the path is closed
-  pub ordering_close : (ms : List Mark) (es os : List ℕ) (n : ℕ) → AreOrdering g s ms es os
+  pub ordering_close : (ms : List Mark) (es os : List ℕ) (n : ℕ) → AreInWalkOrder g s ms es os
       → slice_get ms n ≡ Some OnPath
-      → IsClosedName g n → (IsSettled s n → ⊥) → ((m : ℕ) → LeadsTo g n m → IsDone s os m)
-      → AreOrdering g s (set ms n Closed) es (os ++ n ∷ [])
+      → IsClosedInGraph g n → (IsSettledInGraph s n → ⊥) → ((m : ℕ) → GraphLeadsTo g n m → IsSettledOrWalked s os m)
+      → AreInWalkOrder g s (set ms n Closed) es (os ++ n ∷ [])
   ordering_close ms es os n h on_path closed fresh done =
       let there : n < length ms = slice_get_within ms n OnPath on_path in
       record {
         mark_per_name = length-set ms n Closed ∙ h.mark_per_name;
         marked_in_order = marked_push ms n there Closed os h.marked_in_order;
-        names_closed = either_new {P = λ m. IsClosedName g m} os n h.names_closed closed;
-        names_not_settled = either_new {P = λ m. IsSettled s m → ⊥} os n h.names_not_settled fresh;
+        names_closed = either_new {P = λ m. IsClosedInGraph g m} os n h.names_closed closed;
+        names_not_settled = either_new {P = λ m. IsSettledInGraph s m → ⊥} os n h.names_not_settled fresh;
         names_differ = IsDistinct-push nat_eq_equiv os n h.names_differ
             (false_from_ne_true (is_on_path os n)
-            (λ e. other_mark Closed OnPath ms os h.marked_in_order (λ q. cc) n on_path (on_path_member os n e)));
+            (λ e. walk_marks_exclude_each_other Closed OnPath ms os h.marked_in_order (λ q. cc) n on_path
+            (on_path_member os n e)));
         targets_before = ordered_push g s [] os n h.targets_before done;
-        names_entered = entered_again ms n there Closed es (entered_in OnPath (λ q. cc) ms es n h.names_entered on_path)
+        names_entered = entered_again ms n there Closed es
+            (marked_name_was_entered_by_walk OnPath (λ q. cc) ms es n h.names_entered on_path)
             h.names_entered;
       }

@@ -5,7 +5,7 @@ use Rattle.std.specs.List.{slice_get}
 use Rattle.name_walk.specs.declared.mark.Mark.{Mark}
 use Rattle.name_walk.specs.declared.mark.Mark.TheVariants.{Closed, OnPath, Open}
 use Rattle.name_walk.specs.declared.traces.Frame.{Frame}
-use Rattle.name_walk.specs.Steps.{Graph, steps}
+use Rattle.name_walk.specs.Steps.{Graph, graph_steps}
 
 -- the steps of all names that are open
 abbrev pub open_weight : List Mark → Graph → ℕ
@@ -16,33 +16,34 @@ open_weight (OnPath ∷ ms) (w ∷ ws) = open_weight ms ws
 open_weight (Closed ∷ ms) (w ∷ ws) = open_weight ms ws
 
 -- putting an open name on the path reduces the weight by its steps
-open_less : (ms : List Mark) (h : Graph) (n : ℕ) → slice_get ms n ≡ Some Open → n < length h
-    → open_weight (set ms n OnPath) h + (2 + length (steps h n)) ≡ open_weight ms h
-open_less [] h n e l = cc
-open_less (m ∷ ms) [] n e l = absurd (omega arith)
-open_less (Open ∷ ms) (w ∷ ws) zero e l = omega arith
-open_less (OnPath ∷ ms) (w ∷ ws) zero e l = cc
-open_less (Closed ∷ ms) (w ∷ ws) zero e l = cc
-open_less (Open ∷ ms) (w ∷ ws) (suc n) e l = omega (arith, open_less ms ws n e (omega arith))
-open_less (OnPath ∷ ms) (w ∷ ws) (suc n) e l = open_less ms ws n e (omega arith)
-open_less (Closed ∷ ms) (w ∷ ws) (suc n) e l = open_less ms ws n e (omega arith)
+entering_reduces_walk_weight : (ms : List Mark) (h : Graph) (n : ℕ) → slice_get ms n ≡ Some Open → n < length h
+    → open_weight (set ms n OnPath) h + (2 + length (graph_steps h n)) ≡ open_weight ms h
+entering_reduces_walk_weight [] h n e l = cc
+entering_reduces_walk_weight (m ∷ ms) [] n e l = absurd (omega arith)
+entering_reduces_walk_weight (Open ∷ ms) (w ∷ ws) zero e l = omega arith
+entering_reduces_walk_weight (OnPath ∷ ms) (w ∷ ws) zero e l = cc
+entering_reduces_walk_weight (Closed ∷ ms) (w ∷ ws) zero e l = cc
+entering_reduces_walk_weight (Open ∷ ms) (w ∷ ws) (suc n) e l =
+    omega (arith, entering_reduces_walk_weight ms ws n e (omega arith))
+entering_reduces_walk_weight (OnPath ∷ ms) (w ∷ ws) (suc n) e l = entering_reduces_walk_weight ms ws n e (omega arith)
+entering_reduces_walk_weight (Closed ∷ ms) (w ∷ ws) (suc n) e l = entering_reduces_walk_weight ms ws n e (omega arith)
 
 -- closing a name does not change the weight
-open_same : (ms : List Mark) (h : Graph) (n : ℕ) → slice_get ms n ≡ Some OnPath
+closing_keeps_walk_weight : (ms : List Mark) (h : Graph) (n : ℕ) → slice_get ms n ≡ Some OnPath
     → open_weight (set ms n Closed) h ≡ open_weight ms h
-open_same [] h n e = cc
-open_same (m ∷ ms) [] zero e = refl
-open_same (m ∷ ms) [] (suc n) e = refl
-open_same (Open ∷ ms) (w ∷ ws) zero e = cc
-open_same (OnPath ∷ ms) (w ∷ ws) zero e = refl
-open_same (Closed ∷ ms) (w ∷ ws) zero e = cc
-open_same (Open ∷ ms) (w ∷ ws) (suc n) e = omega (arith, open_same ms ws n e)
-open_same (OnPath ∷ ms) (w ∷ ws) (suc n) e = open_same ms ws n e
-open_same (Closed ∷ ms) (w ∷ ws) (suc n) e = open_same ms ws n e
+closing_keeps_walk_weight [] h n e = cc
+closing_keeps_walk_weight (m ∷ ms) [] zero e = refl
+closing_keeps_walk_weight (m ∷ ms) [] (suc n) e = refl
+closing_keeps_walk_weight (Open ∷ ms) (w ∷ ws) zero e = cc
+closing_keeps_walk_weight (OnPath ∷ ms) (w ∷ ws) zero e = refl
+closing_keeps_walk_weight (Closed ∷ ms) (w ∷ ws) zero e = cc
+closing_keeps_walk_weight (Open ∷ ms) (w ∷ ws) (suc n) e = omega (arith, closing_keeps_walk_weight ms ws n e)
+closing_keeps_walk_weight (OnPath ∷ ms) (w ∷ ws) (suc n) e = closing_keeps_walk_weight ms ws n e
+closing_keeps_walk_weight (Closed ∷ ms) (w ∷ ws) (suc n) e = closing_keeps_walk_weight ms ws n e
 
 module _ (g : Graph) where
   abbrev pub frame_weight : ℕ → ℕ → ℕ
-  frame_weight name place = 1 + length (steps g name) - place
+  frame_weight name place = 1 + length (graph_steps g name) - place
 
   abbrev pub frames_weight : List Frame → ℕ
   frames_weight [] = 0
@@ -56,15 +57,15 @@ module _ (g : Graph) where
   frames_more [] f = omega arith
   frames_more (h ∷ fs) f = omega (arith, frames_more fs f)
 
-  pub pass_less : (ms : List Mark) (fs : List Frame) (name place : ℕ) → place < length (steps g name)
+  pub pass_less : (ms : List Mark) (fs : List Frame) (name place : ℕ) → place < length (graph_steps g name)
       → weight ms fs name (place + 1) < weight ms fs name place
   pass_less ms fs name place h = omega arith
 
   pub enter_less : (ms : List Mark) (fs : List Frame) (f : Frame) (m : ℕ) → slice_get ms m ≡ Some Open → m < length g
       → weight (set ms m OnPath) (fs ++ f ∷ []) m 0 < weight ms fs f.name f.place
-  enter_less ms fs f m e l = omega (arith, open_less ms g m e l, frames_more fs f)
+  enter_less ms fs f m e l = omega (arith, entering_reduces_walk_weight ms g m e l, frames_more fs f)
 
   pub leave_less : (ms : List Mark) (fs : List Frame) (f : Frame) (name place : ℕ) → slice_get ms name ≡ Some OnPath
-      → place ≤ length (steps g name)
+      → place ≤ length (graph_steps g name)
       → weight (set ms name Closed) fs f.name (f.place + 1) < weight ms (fs ++ f ∷ []) name place
-  leave_less ms fs f name place e l = omega (arith, open_same ms g name e, frames_more fs f)
+  leave_less ms fs f name place e l = omega (arith, closing_keeps_walk_weight ms g name e, frames_more fs f)

@@ -8,22 +8,22 @@ abbrev pub Graph : Type 0
 Graph = List (List Step)
 
 -- the steps of one name, or no steps if no name has the number
-abbrev pub steps : Graph → ℕ → List Step
-steps g n = slice_index_or g n []
+abbrev pub graph_steps : Graph → ℕ → List Step
+graph_steps g n = slice_index_or g n []
 
 -- the name n leads to m by one of its steps
-abbrev pub LeadsTo : Graph → ℕ → ℕ → Type 0
-LeadsTo g n m = Contains (steps g n) (To m)
+abbrev pub GraphLeadsTo : Graph → ℕ → ℕ → Type 0
+GraphLeadsTo g n m = Contains (graph_steps g n) (To m)
 
 -- the name n leads to m by one or more steps
-pub data NameReaches (g : Graph) : ℕ → ℕ → Type 0 where
-  at_once : {n m : ℕ} → LeadsTo g n m → NameReaches g n m
-  further : {n x m : ℕ} → LeadsTo g n x → NameReaches g x m → NameReaches g n m
+pub data GraphReaches (g : Graph) : ℕ → ℕ → Type 0 where
+  at_once : {n m : ℕ} → GraphLeadsTo g n m → GraphReaches g n m
+  further : {n x m : ℕ} → GraphLeadsTo g n x → GraphReaches g x m → GraphReaches g n m
 
 -- the steps lead only to names of the graph, or nowhere
 abbrev pub StayInGraph : Graph → List Step → Type 0
 StayInGraph g xs = (m : ℕ) → Contains xs (To m) → m < length g
 
 -- all steps of the graph lead only to names of the graph, or nowhere
-abbrev pub InRange : Graph → Type 0
-InRange g = (n : ℕ) → StayInGraph g (steps g n)
+abbrev pub AreStepsInGraph : Graph → Type 0
+AreStepsInGraph g = (n : ℕ) → StayInGraph g (graph_steps g n)

@@ -1,8 +1,8 @@
 //! The chain of a cycle.
 
 ghost use Rattle.std.specs.Prelude.{◌≡◌, true, ◌∷◌, [], ◌++◌, IfOk};
-ghost use Rattle.name_walk.specs.Faults.{from_name, is_on_path};
-ghost use Rattle.name_walk.specs.Traces.{path};
+ghost use Rattle.name_walk.specs.Faults.{is_on_path, path_from_name};
+ghost use Rattle.name_walk.specs.Traces.{path_of_frames};
 
 use crate::traces::Frame;
 use std::alloc::{AllocError, Global};
@@ -15,8 +15,8 @@ pub(crate) fn chain(
     last: usize,
     again: usize,
 ) -> Result<Vec<usize>, AllocError>
-    requires { is_on_path (path frames.now last) again ≡ true }
-    ensures { IfOk result (λ names. names.items ≡ from_name again (path frames.now last) ++ again ∷ []) }
+    requires { is_on_path (path_of_frames frames.now last) again ≡ true }
+    ensures { IfOk result (λ names. names.items ≡ path_from_name again (path_of_frames frames.now last) ++ again ∷ []) }
 {
     let mut names = Vec::new(alloc);
     let mut is_below = false;

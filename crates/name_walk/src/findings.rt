@@ -1,11 +1,11 @@
 //! The results of searches, remembered for each name.
 
 ghost use Rattle.std.specs.Prelude.{◌≡◌, ◌↔◌, ◌∷◌, [], Bool, List, Some, IfOk, IsTrue, OnErr};
-ghost use Rattle.name_walk.specs.Faults.{steps_fault};
+ghost use Rattle.name_walk.specs.Faults.{steps_fault_after_path};
 ghost use Rattle.name_walk.specs.Findings as spec;
 ghost use Rattle.name_walk.specs.Nets.{IsConsistentGraph};
 ghost use Rattle.name_walk.specs.Steps.{Graph, StayInGraph};
-ghost use Rattle.name_walk.specs.Walks.{fault_view};
+ghost use Rattle.name_walk.specs.Walks.{walk_fault_view};
 
 use crate::fault::Fault;
 use crate::known_faults::name_fault;
@@ -28,7 +28,7 @@ pub struct Findings {
 }
 
 impl Model for Findings {
-    ghost use Rattle.name_walk.specs.Findings.{IsConsistent, WalkFindings};
+    ghost use Rattle.name_walk.specs.Findings.{IsConsistentWalkTrace, WalkFindings};
 
     ghost Value = { WalkFindings };
 
@@ -38,13 +38,13 @@ impl Model for Findings {
       names = f.traces.entered_names;
     } };
 
-    ghost invariant = { λ f. IsConsistent f.traces f.faults.items };
+    ghost invariant = { λ f. IsConsistentWalkTrace f.traces f.faults.items };
 }
 
 impl Findings {
     /// Returns empty findings. They allocate no memory.
     pub fn new(alloc: Global) -> Findings
-        ensures { spec.IsNothing result }
+        ensures { spec.AreNoWalkFindings result }
     {
         Findings {
             traces: Traces::new(alloc),
@@ -61,7 +61,7 @@ impl Findings {
 
     /// Forgets everything. The cost is proportional to the number of names about which something is known.
     pub fn clear(&mut self, alloc: Global)
-        ensures { spec.IsNothing self.new }
+        ensures { spec.AreNoWalkFindings self.new }
     {
         clear(alloc, &mut self.traces, &mut self.faults);
     }
@@ -81,12 +81,12 @@ impl Findings {
     ) -> Result<Option<Step>, AllocError>
         requires net { IsConsistentGraph net.now.steps.now net.now.settled.now }
         requires query { StayInGraph net.now.steps.now query.now }
-        requires right { spec.AreRight net.now.steps.now net.now.settled.now self.old }
-        ensures right { spec.AreRight net.now.steps.now net.now.settled.now self.new }
-        ensures names { spec.AreFromQuery net.now.steps.now net.now.settled.now query.now self.old.names
+        requires right { spec.AreRightWalkFindings net.now.steps.now net.now.settled.now self.old }
+        ensures right { spec.AreRightWalkFindings net.now.steps.now net.now.settled.now self.new }
+        ensures names { spec.AreWalkedFromQuery net.now.steps.now net.now.settled.now query.now self.old.names
             self.new.names }
-        ensures found { IfOk result (spec.IsFirstFaulty net.now.steps.now query.now self.new.faults) }
-        ensures err { OnErr result (spec.IsNothing self.new) }
+        ensures found { IfOk result (spec.IsFirstFaultyWalkStep net.now.steps.now query.now self.new.faults) }
+        ensures err { OnErr result (spec.AreNoWalkFindings self.new) }
     {
         match search_from(net, query, &mut self.traces, &mut self.faults) {
             Ok(found) => Ok(found),
@@ -100,9 +100,10 @@ impl Findings {
     /// Returns the fault of a step that leads nowhere or to a name with a known fault. The cost is proportional to the
     /// number of names in the fault. The only error is running out of memory.
     pub fn fault(&self, alloc: Global, step: Step) -> Result<Fault, AllocError>
-        requires known { spec.IsFaultyStep self.now.faults step }
-        ensures { IfOk result (λ f. (g : Graph) (s : List Bool) → IsConsistentGraph g s → spec.AreRight g s self.now
-            → steps_fault g [] (step ∷ []) ≡ Some (fault_view f)) }
+        requires known { spec.IsFaultyWalkStep self.now.faults step }
+        ensures { IfOk result (λ f. (g : Graph) (s : List Bool) → IsConsistentGraph g s
+            → spec.AreRightWalkFindings g s self.now
+            → steps_fault_after_path g [] (step ∷ []) ≡ Some (walk_fault_view f)) }
     {
         match step {
             Step::Nowhere(word) => Ok(Fault::DeadEnd(word, None)),

@@ -1,12 +1,12 @@
 //! The faults of names that are known to have one.
 
 ghost use Rattle.std.specs.Prelude.{◌≡◌, ◌∷◌, [], ◌++◌, Bool, List, ℕ, Some, IfOk, slice_get};
-ghost use Rattle.name_walk.specs.Faults.{steps_fault};
+ghost use Rattle.name_walk.specs.Faults.{steps_fault_after_path};
 ghost use Rattle.name_walk.specs.Nets.{IsConsistentGraph};
-ghost use Rattle.name_walk.specs.Rings.{IsFaultRing, IsWay};
+ghost use Rattle.name_walk.specs.Rings.{IsFaultyWalkWay, IsWalkFaultRing};
 ghost use Rattle.name_walk.specs.Steps.{Graph};
-ghost use Rattle.name_walk.specs.Trails.{AreFindings, AreTrails, GoesBy, IsFaulty};
-ghost use Rattle.name_walk.specs.Walks.{fault_view};
+ghost use Rattle.name_walk.specs.Trails.{AreWalkFindings, AreWalkTrails, GoesByFaultyStep, IsFaultyInWalk};
+ghost use Rattle.name_walk.specs.Walks.{walk_fault_view};
 ghost use Rattle.name_walk.specs.declared.step.Step.TheVariants as steps;
 
 use crate::fault::Fault;
@@ -20,10 +20,11 @@ pub(crate) fn name_fault(
     faults: &[Option<FaultyStep>],
     name: usize,
 ) -> Result<Fault, AllocError>
-    requires trails { AreTrails faults.now }
-    requires faulty { IsFaulty faults.now name }
+    requires trails { AreWalkTrails faults.now }
+    requires faulty { IsFaultyInWalk faults.now name }
     ensures { IfOk result (λ f. (g : Graph) (s : List Bool) (sound : List ℕ) → IsConsistentGraph g s
-        → AreFindings g s sound faults.now → steps_fault g [] (steps.To name ∷ []) ≡ Some (fault_view f)) }
+        → AreWalkFindings g s sound faults.now → steps_fault_after_path g [] (steps.To name ∷ [])
+        ≡ Some (walk_fault_view f)) }
 {
     let end = known_step(faults, name).end;
     match known_step(faults, end).step {
@@ -42,8 +43,8 @@ fn ring(
     end: usize,
     first: usize,
 ) -> Result<Vec<usize>, AllocError>
-    requires ring { (rest : List ℕ) × IsFaultRing faults.now end first rest }
-    ensures names { IfOk result (λ names. (rest : List ℕ) × IsWay faults.now end first rest
+    requires ring { (rest : List ℕ) × IsWalkFaultRing faults.now end first rest }
+    ensures names { IfOk result (λ names. (rest : List ℕ) × IsFaultyWalkWay faults.now end first rest
         × (names.items ≡ (end ∷ rest) ++ end ∷ [])) }
 {
     let mut names = Vec::new(alloc);
@@ -59,8 +60,8 @@ fn ring(
 
 // Returns the name to which the faulty step of `name` leads.
 fn next(faults: &[Option<FaultyStep>], name: usize) -> usize
-    requires { (m : ℕ) × GoesBy faults.now name (steps.To m) }
-    ensures { GoesBy faults.now name (steps.To result) }
+    requires { (m : ℕ) × GoesByFaultyStep faults.now name (steps.To m) }
+    ensures { GoesByFaultyStep faults.now name (steps.To result) }
 {
     match known_step(faults, name).step {
         Step::To(next) => next,
@@ -70,7 +71,7 @@ fn next(faults: &[Option<FaultyStep>], name: usize) -> usize
 
 // Returns the faulty step of a name that is known to have a fault.
 fn known_step(faults: &[Option<FaultyStep>], name: usize) -> FaultyStep
-    requires { IsFaulty faults.now name }
+    requires { IsFaultyInWalk faults.now name }
     ensures { slice_get faults.now name ≡ Some (Some result) }
 {
     match faults[name] {

@@ -2,7 +2,7 @@
 
 ghost use Rattle.std.specs.Prelude.{◌≡◌, ◌+◌, ◌^◌, ◌<◌, IfSome, length, slice_get};
 ghost use Rattle.std.specs.Option.{option_copied};
-ghost use Rattle.name_walk.specs.Steps.{steps};
+ghost use Rattle.name_walk.specs.Steps.{graph_steps};
 
 use crate::step::{Step, StepList};
 
@@ -19,7 +19,7 @@ impl<'a> WalkGraph<'a> {
     // Returns the step of `name` at `place`, or `None` if the name has no step there.
     pub(crate) fn step(&self, name: usize, place: usize) -> Option<Step>
         requires { name < length self.now.steps.now }
-        ensures step { result ≡ slice_get (steps self.now.steps.now name) place }
+        ensures step { result ≡ slice_get (graph_steps self.now.steps.now name) place }
         ensures few { IfSome result (λ _. place + 1 < 2 ^ 64) }
     {
         self.steps[name].as_slice().get(place).copied()

@@ -1,12 +1,13 @@
 //! The search for the first fault below a query.
 
 ghost use Rattle.std.specs.Prelude.{◌≡◌, ◌<◌, ◌≤◌, [], ℕ, length, IfOk};
-ghost use Rattle.name_walk.specs.Findings.{AreFromQuery, CanClear, IsConsistent, IsFirstFaulty};
+ghost use Rattle.name_walk.specs.Findings.{AreWalkedFromQuery, CanClearWalk, IsConsistentWalkTrace};
+ghost use Rattle.name_walk.specs.Findings.{IsFirstFaultyWalkStep};
 ghost use Rattle.name_walk.specs.Nets.{IsConsistentGraph};
 ghost use Rattle.name_walk.specs.Searches as spec;
 ghost use Rattle.name_walk.specs.Steps.{StayInGraph};
-ghost use Rattle.name_walk.specs.Traces.{IsIdle};
-ghost use Rattle.name_walk.specs.Trails.{AreFindings, IsFaulty};
+ghost use Rattle.name_walk.specs.Traces.{IsIdleWalk};
+ghost use Rattle.name_walk.specs.Trails.{AreWalkFindings, IsFaultyInWalk};
 
 use crate::mark::Mark;
 use crate::net::WalkGraph;
@@ -34,8 +35,8 @@ fn step_finding(
     name: usize,
     step: Step,
 ) -> Finding
-    requires known { spec.CanFind net.now.settled.now traces.now.marks faults.now step }
-    ensures { spec.IsFinding net.now.settled.now traces.now.marks faults.now name step result }
+    requires known { spec.CanFindInWalk net.now.settled.now traces.now.marks faults.now step }
+    ensures { spec.IsWalkFinding net.now.settled.now traces.now.marks faults.now name step result }
 {
     let next = match step {
         Step::Nowhere(_) => return Finding::Faulty(Ending::At(name)),
@@ -62,10 +63,10 @@ fn search_name(
     faults: &mut Vec<Option<FaultyStep>>,
 ) -> Result<bool, AllocError>
     requires net { IsConsistentGraph net.now.steps.now net.now.settled.now }
-    requires between { spec.IsBetween net.now.steps.now net.now.settled.now traces.old faults.old.items }
-    requires fresh { spec.IsOpen net.now.settled.now traces.old.marks faults.old.items start }
-    ensures can_clear { CanClear traces.new.marks traces.new.entered_names faults.new.items }
-    ensures found { IfOk result (spec.IsSearched net.now.steps.now net.now.settled.now start traces.old traces.new
+    requires between { spec.IsBetweenWalkSearches net.now.steps.now net.now.settled.now traces.old faults.old.items }
+    requires fresh { spec.IsOpenForWalk net.now.settled.now traces.old.marks faults.old.items start }
+    ensures can_clear { CanClearWalk traces.new.marks traces.new.entered_names faults.new.items }
+    ensures found { IfOk result (spec.IsSearchedByWalk net.now.steps.now net.now.settled.now start traces.old traces.new
         faults.old.items faults.new.items) }
 {
     traces.enter(start)?;
@@ -103,14 +104,14 @@ pub(crate) fn search_query(
 ) -> Result<Option<Step>, AllocError>
     requires net { IsConsistentGraph net.now.steps.now net.now.settled.now }
     requires query { StayInGraph net.now.steps.now query.now }
-    requires between { spec.IsBetween net.now.steps.now net.now.settled.now traces.old faults.old.items }
-    ensures can_clear { CanClear traces.new.marks traces.new.entered_names faults.new.items }
+    requires between { spec.IsBetweenWalkSearches net.now.steps.now net.now.settled.now traces.old faults.old.items }
+    ensures can_clear { CanClearWalk traces.new.marks traces.new.entered_names faults.new.items }
     ensures between { IfOk result
-        (λ _. spec.IsBetween net.now.steps.now net.now.settled.now traces.new faults.new.items) }
-    ensures names { IfOk result (λ _. AreFromQuery net.now.steps.now net.now.settled.now query.now
+        (λ _. spec.IsBetweenWalkSearches net.now.steps.now net.now.settled.now traces.new faults.new.items) }
+    ensures names { IfOk result (λ _. AreWalkedFromQuery net.now.steps.now net.now.settled.now query.now
         traces.old.entered_names
         traces.new.entered_names) }
-    ensures found { IfOk result (IsFirstFaulty net.now.steps.now query.now faults.new.items) }
+    ensures found { IfOk result (IsFirstFaultyWalkStep net.now.steps.now query.now faults.new.items) }
 {
     for &step in query {
         let start = match step {
@@ -133,9 +134,9 @@ fn is_faulty(
 ) -> Result<bool, AllocError>
     requires net { IsConsistentGraph net.now.steps.now net.now.settled.now }
     requires name { name < length net.now.steps.now }
-    requires between { spec.IsBetween net.now.steps.now net.now.settled.now traces.old faults.old.items }
-    ensures can_clear { CanClear traces.new.marks traces.new.entered_names faults.new.items }
-    ensures found { IfOk result (spec.IsSearched net.now.steps.now net.now.settled.now name traces.old traces.new
+    requires between { spec.IsBetweenWalkSearches net.now.steps.now net.now.settled.now traces.old faults.old.items }
+    ensures can_clear { CanClearWalk traces.new.marks traces.new.entered_names faults.new.items }
+    ensures found { IfOk result (spec.IsSearchedByWalk net.now.steps.now net.now.settled.now name traces.old traces.new
         faults.old.items faults.new.items) }
 {
     if faults[name].is_some() {
@@ -156,16 +157,16 @@ pub(crate) fn search_from(
 ) -> Result<Option<Step>, AllocError>
     requires net { IsConsistentGraph net.now.steps.now net.now.settled.now }
     requires query { StayInGraph net.now.steps.now query.now }
-    requires consistent { IsConsistent traces.old faults.old.items }
-    requires right { AreFindings net.now.steps.now net.now.settled.now traces.old.order faults.old.items }
-    ensures can_clear { CanClear traces.new.marks traces.new.entered_names faults.new.items }
-    ensures consistent { IfOk result (λ _. IsConsistent traces.new faults.new.items) }
+    requires consistent { IsConsistentWalkTrace traces.old faults.old.items }
+    requires right { AreWalkFindings net.now.steps.now net.now.settled.now traces.old.order faults.old.items }
+    ensures can_clear { CanClearWalk traces.new.marks traces.new.entered_names faults.new.items }
+    ensures consistent { IfOk result (λ _. IsConsistentWalkTrace traces.new faults.new.items) }
     ensures right { IfOk result
-        (λ _. AreFindings net.now.steps.now net.now.settled.now traces.new.order faults.new.items) }
-    ensures names { IfOk result (λ _. AreFromQuery net.now.steps.now net.now.settled.now query.now
+        (λ _. AreWalkFindings net.now.steps.now net.now.settled.now traces.new.order faults.new.items) }
+    ensures names { IfOk result (λ _. AreWalkedFromQuery net.now.steps.now net.now.settled.now query.now
         traces.old.entered_names
         traces.new.entered_names) }
-    ensures found { IfOk result (IsFirstFaulty net.now.steps.now query.now faults.new.items) }
+    ensures found { IfOk result (IsFirstFaultyWalkStep net.now.steps.now query.now faults.new.items) }
 {
     let names = net.steps.len();
     cover_marks(names, traces)?;
@@ -175,7 +176,7 @@ pub(crate) fn search_from(
 
 // Makes room for the marks of at least `names` names. New names are open.
 fn cover_marks(names: usize, traces: &mut Traces) -> Result<(), AllocError>
-    ensures covered { spec.AreMarksCovered traces.old traces.new }
+    ensures covered { spec.AreWalkMarksCovered traces.old traces.new }
     ensures marks { IfOk result (λ _. names ≤ length traces.new.marks) }
 {
     if names <= traces.len() {
@@ -186,7 +187,7 @@ fn cover_marks(names: usize, traces: &mut Traces) -> Result<(), AllocError>
 
 // Makes room for the faults of at least `names` names. New names have no fault.
 fn cover_faults(names: usize, faults: &mut Vec<Option<FaultyStep>>) -> Result<(), AllocError>
-    ensures covered { spec.AreFaultsCovered faults.old.items faults.new.items }
+    ensures covered { spec.AreWalkFaultsCovered faults.old.items faults.new.items }
     ensures faults { IfOk result (λ _. names ≤ length faults.new.items) }
 {
     if names <= faults.len() {
@@ -197,10 +198,10 @@ fn cover_faults(names: usize, faults: &mut Vec<Option<FaultyStep>>) -> Result<()
 
 // Forgets everything. The cost is proportional to the number of names about which something is known.
 pub(crate) fn clear(alloc: Global, traces: &mut Traces, faults: &mut Vec<Option<FaultyStep>>)
-    requires { CanClear traces.old.marks traces.old.entered_names faults.old.items }
-    ensures marks { IsIdle traces.new }
+    requires { CanClearWalk traces.old.marks traces.old.entered_names faults.old.items }
+    ensures marks { IsIdleWalk traces.new }
     ensures order { traces.new.order ≡ [] }
-    ensures faults { (n : ℕ) → IsFaulty faults.new.items n → ⊥ }
+    ensures faults { (n : ℕ) → IsFaultyInWalk faults.new.items n → ⊥ }
 {
     for name in traces.entered_names() {
         faults[*name] = None;

@@ -1,10 +1,9 @@
 //! The state of a walk: marks, the path, and the order of the closed names.
 
-ghost use Rattle.std.specs.Prelude.{◌≡◌, ◌+◌, ◌^◌, ◌<◌, [], length, slice_get, Some};
-ghost use Rattle.std.specs.Prelude.{MatchOption, OnOk, OnErr};
-ghost use Rattle.name_walk.specs.Traces.{AreEntered, no_traces, trace_with_names, with_entered, with_closed};
-ghost use Rattle.name_walk.specs.Traces.{with_frame};
-ghost use Rattle.name_walk.specs.Traces.{IsCleared, without_order};
+ghost use Rattle.std.specs.Prelude.{◌≡◌, ◌+◌, ◌^◌, ◌<◌, [], length, slice_get, Some, MatchOption, OnOk, OnErr};
+ghost use Rattle.name_walk.specs.Traces.{AreWalkNamesEntered, no_walk_traces, walk_trace_with_names};
+ghost use Rattle.name_walk.specs.Traces.{walk_trace_with_entered, walk_trace_with_closed, walk_trace_with_frame};
+ghost use Rattle.name_walk.specs.Traces.{IsClearedWalk, walk_trace_without_order};
 
 use crate::mark::Mark;
 use std::alloc::{AllocError, Global};
@@ -48,9 +47,9 @@ pub(crate) struct Traces {
 }
 
 impl Model for Traces {
-    ghost use Rattle.name_walk.specs.Traces.{Trace};
+    ghost use Rattle.name_walk.specs.Traces.{WalkTrace};
 
-    ghost Value = { Trace };
+    ghost Value = { WalkTrace };
 
     ghost view = { λ t. record {
       marks = t.marks.items;
@@ -63,7 +62,7 @@ impl Model for Traces {
 impl Traces {
     // Returns traces of no names. They allocate no memory.
     pub(crate) fn new(alloc: Global) -> Traces
-        ensures { result ≡ no_traces }
+        ensures { result ≡ no_walk_traces }
     {
         Traces {
             marks: Vec::new(alloc),
@@ -75,7 +74,7 @@ impl Traces {
 
     // Makes room for the marks of exactly `names` names. New names are open. On an error nothing changes.
     pub(crate) fn cover(&mut self, names: usize) -> Result<(), AllocError>
-        ensures ok { OnOk result (self.new ≡ trace_with_names names self.old) }
+        ensures ok { OnOk result (self.new ≡ walk_trace_with_names names self.old) }
         ensures err { OnErr result (self.new ≡ self.old) }
     {
         self.marks.resize(names, Mark::Open)
@@ -120,7 +119,7 @@ impl Traces {
     // Marks a name as on the path. On an error nothing changes.
     pub(crate) fn enter(&mut self, name: usize) -> Result<(), AllocError>
         requires { name < length self.old.marks }
-        ensures ok { OnOk result (self.new ≡ with_entered self.old name) }
+        ensures ok { OnOk result (self.new ≡ walk_trace_with_entered self.old name) }
         ensures err { OnErr result (self.new ≡ self.old) }
     {
         self.entered.push(name)?;
@@ -131,7 +130,7 @@ impl Traces {
     // Closes a name. On an error nothing changes.
     pub(crate) fn close(&mut self, name: usize) -> Result<(), AllocError>
         requires { name < length self.old.marks }
-        ensures ok { OnOk result (self.new ≡ with_closed self.old name) }
+        ensures ok { OnOk result (self.new ≡ walk_trace_with_closed self.old name) }
         ensures err { OnErr result (self.new ≡ self.old) }
     {
         self.order.push(name)?;
@@ -141,7 +140,7 @@ impl Traces {
 
     // Goes down one name: `frame` becomes the last frame above the current name. On an error nothing changes.
     pub(crate) fn push(&mut self, frame: Frame) -> Result<(), AllocError>
-        ensures ok { OnOk result (self.new ≡ with_frame self.old frame) }
+        ensures ok { OnOk result (self.new ≡ walk_trace_with_frame self.old frame) }
         ensures err { OnErr result (self.new ≡ self.old) }
     {
         self.frames.push(frame)?;
@@ -151,14 +150,14 @@ impl Traces {
     // Goes up one name, and returns its frame, or `None` at the top.
     pub(crate) fn pop(&mut self) -> Option<Frame>
         ensures { MatchOption result ((self.new ≡ self.old) × (self.old.frames ≡ []))
-            (λ frame. self.old ≡ with_frame self.new frame) }
+            (λ frame. self.old ≡ walk_trace_with_frame self.new frame) }
     {
         self.frames.pop()
     }
 
     // Forgets the order of the previous walk.
     pub(crate) fn forget_order(&mut self)
-        ensures { self.new ≡ without_order self.old }
+        ensures { self.new ≡ walk_trace_without_order self.old }
     {
         self.order.clear();
     }
@@ -166,8 +165,8 @@ impl Traces {
     // Resets the marks and the path. The cost is proportional to the number of entered names. The memory of the entered
     // names and of the path is freed: a long walk is rare, and the work after it needs memory of its own.
     pub(crate) fn clean(&mut self, alloc: Global)
-        requires { AreEntered self.old.marks self.old.entered_names }
-        ensures { IsCleared self.old self.new }
+        requires { AreWalkNamesEntered self.old.marks self.old.entered_names }
+        ensures { IsClearedWalk self.old self.new }
     {
         while let Some(name) = self.entered.pop() {
             self.marks[name] = Mark::Open;

@@ -2,8 +2,8 @@
 
 ghost use Rattle.std.specs.Prelude.{◌≡◌, ◌<◌, length, ℕ, slice_get, nat_eq, Contains};
 ghost use Rattle.std.specs.List.{IsDistinct};
-ghost use Rattle.name_walk.specs.PathRecords.{AreNoted, end_for, ending_above};
-ghost use Rattle.name_walk.specs.Traces.{path, without_frames};
+ghost use Rattle.name_walk.specs.PathRecords.{ArePathFaultsNoted, path_end_for, path_ending_above};
+ghost use Rattle.name_walk.specs.Traces.{path_of_frames, walk_trace_without_frames};
 
 use crate::step::Step;
 use crate::traces::Traces;
@@ -28,7 +28,7 @@ pub(crate) enum Ending {
 impl Ending {
     // Returns the name at which the fault of `name` occurs, if `name` is the last name of the path.
     fn end(self, name: usize) -> usize
-        ensures { result ≡ end_for self name }
+        ensures { result ≡ path_end_for self name }
     {
         match self {
             Ending::At(end) => end,
@@ -38,7 +38,7 @@ impl Ending {
 
     // Returns how the names above `name` come to the fault.
     fn above(self, name: usize) -> Ending
-        ensures { result ≡ ending_above self name }
+        ensures { result ≡ path_ending_above self name }
     {
         match self {
             Ending::At(end) => Ending::At(end),
@@ -61,13 +61,13 @@ pub(crate) fn note_path(
     last_step: Step,
     last_ending: Ending,
 )
-    requires once { IsDistinct nat_eq (path traces.old.frames last) }
-    requires there { (n : ℕ) → Contains (path traces.old.frames last) n → n < length faults.old.items }
-    ensures noted { AreNoted faults.new.items last_ending last_step (path traces.old.frames last) }
-    ensures others { (n : ℕ) → (Contains (path traces.old.frames last) n → ⊥)
+    requires once { IsDistinct nat_eq (path_of_frames traces.old.frames last) }
+    requires there { (n : ℕ) → Contains (path_of_frames traces.old.frames last) n → n < length faults.old.items }
+    ensures noted { ArePathFaultsNoted faults.new.items last_ending last_step (path_of_frames traces.old.frames last) }
+    ensures others { (n : ℕ) → (Contains (path_of_frames traces.old.frames last) n → ⊥)
         → slice_get faults.new.items n ≡ slice_get faults.old.items n }
     ensures size { length faults.new.items ≡ length faults.old.items }
-    ensures traces { traces.new ≡ without_frames traces.old }
+    ensures traces { traces.new ≡ walk_trace_without_frames traces.old }
 {
     let mut name = last;
     let mut step = last_step;

@@ -2,8 +2,8 @@
 
 ghost use Rattle.std.specs.Prelude.{◌≡◌, ◌<◌, length, IfOk};
 ghost use Rattle.name_walk.specs.Nets.{IsConsistentGraph};
-ghost use Rattle.name_walk.specs.Traces.{AreEntered};
-ghost use Rattle.name_walk.specs.Visits.{IsBetween, IsMarkFound, IsVisited};
+ghost use Rattle.name_walk.specs.Traces.{AreWalkNamesEntered};
+ghost use Rattle.name_walk.specs.Visits.{IsBetweenWalkVisits, IsVisitedByWalk, IsWalkMarkFound};
 ghost use Rattle.name_walk.specs.declared.mark.Mark.TheVariants.{Open};
 
 use crate::chain::chain;
@@ -18,7 +18,7 @@ use std::alloc::{AllocError, Global};
 pub(crate) fn mark_of(net: &WalkGraph, traces: &Traces, name: usize) -> Mark
     requires settled { name < length net.now.settled.now }
     requires marked { name < length traces.now.marks }
-    ensures { IsMarkFound net.now.settled.now traces.now.marks name result }
+    ensures { IsWalkMarkFound net.now.settled.now traces.now.marks name result }
 {
     if net.settled[name] {
         return Mark::Closed;
@@ -36,11 +36,11 @@ pub(crate) fn visit(
     traces: &mut Traces,
 ) -> Result<Option<Fault>, AllocError>
     requires net { IsConsistentGraph net.now.steps.now net.now.settled.now }
-    requires between { IsBetween net.now.steps.now net.now.settled.now traces.old }
-    requires fresh { IsMarkFound net.now.settled.now traces.old.marks start Open }
-    ensures entered { AreEntered traces.new.marks traces.new.entered_names }
+    requires between { IsBetweenWalkVisits net.now.steps.now net.now.settled.now traces.old }
+    requires fresh { IsWalkMarkFound net.now.settled.now traces.old.marks start Open }
+    ensures entered { AreWalkNamesEntered traces.new.marks traces.new.entered_names }
     ensures size { length traces.new.marks ≡ length traces.old.marks }
-    ensures visited { IfOk result (IsVisited net.now.steps.now net.now.settled.now start traces.old traces.new) }
+    ensures visited { IfOk result (IsVisitedByWalk net.now.steps.now net.now.settled.now start traces.old traces.new) }
 {
     traces.enter(start)?;
     let mut here = Frame::first(start);

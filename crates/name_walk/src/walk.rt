@@ -3,8 +3,8 @@
 ghost use Rattle.std.specs.Prelude.{◌≡◌, ◌+◌, [], length, IfOk, OnOk, OnErr};
 ghost use Rattle.name_walk.specs.Nets.{IsConsistentGraph};
 ghost use Rattle.name_walk.specs.Steps.{StayInGraph};
-ghost use Rattle.name_walk.specs.Traces.{AreEntered};
-ghost use Rattle.name_walk.specs.Visits.{IsBetween};
+ghost use Rattle.name_walk.specs.Traces.{AreWalkNamesEntered};
+ghost use Rattle.name_walk.specs.Visits.{IsBetweenWalkVisits};
 ghost use Rattle.name_walk.specs.Walks.{IsWalked};
 
 use crate::fault::Fault;
@@ -24,13 +24,13 @@ pub struct Walker {
 
 impl Model for Walker {
     ghost use Rattle.std.specs.Prelude.{List, ℕ};
-    ghost use Rattle.name_walk.specs.Traces.{IsIdle};
+    ghost use Rattle.name_walk.specs.Traces.{IsIdleWalk};
 
     ghost Value = { List ℕ };
 
     ghost view = { λ w. w.traces.order };
 
-    ghost invariant = { λ w. IsIdle w.traces };
+    ghost invariant = { λ w. IsIdleWalk w.traces };
 }
 
 impl Walker {
@@ -86,9 +86,9 @@ fn visit_each(
 ) -> Result<Option<Fault>, AllocError>
     requires net { IsConsistentGraph net.now.steps.now net.now.settled.now }
     requires query { StayInGraph net.now.steps.now query.now }
-    requires between { IsBetween net.now.steps.now net.now.settled.now traces.old }
+    requires between { IsBetweenWalkVisits net.now.steps.now net.now.settled.now traces.old }
     requires nothing { traces.old.order ≡ [] }
-    ensures entered { AreEntered traces.new.marks traces.new.entered_names }
+    ensures entered { AreWalkNamesEntered traces.new.marks traces.new.entered_names }
     ensures size { length traces.new.marks ≡ length traces.old.marks }
     ensures visited { IfOk result
         (IsWalked net.now.steps.now net.now.settled.now query.now traces.new.order) }

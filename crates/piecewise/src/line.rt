@@ -16,9 +16,10 @@ pub(crate) struct Line<'a> {
 
 impl Line<'_> {
     // Returns the y at x: y0 + (y1 - y0) * (x - x0) / (x1 - x0).
-    #[tactic(auto, unfolding(crate::specs::Lines::on_line))]
+    #[tactic(auto, unfolding(crate::specs::Lines::y_on_line_of_points))]
     pub(crate) fn at(&self, x: &Frac) -> Result<Frac, FracFault>
-        ensures { result ≡ spec.on_line (self.now.x0.now, self.now.y0.now) (self.now.x1.now, self.now.y1.now) x.now }
+        ensures { result ≡ spec.y_on_line_of_points (self.now.x0.now, self.now.y0.now)
+            (self.now.x1.now, self.now.y1.now) x.now }
     {
         let rise = self.y1.sub(self.y0)?;
         let run = x.sub(self.x0)?;

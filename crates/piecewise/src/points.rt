@@ -3,7 +3,7 @@
 ghost use Rattle.std.specs.Prelude.{◌≡◌, ◌<◌, IfOk, All, length};
 ghost use Rattle.std.specs.Bool.{OnTrue};
 ghost use Rattle.std.specs.Ordering.{is_lt};
-ghost use Rattle.frac128.specs.Order.{order_of};
+ghost use Rattle.frac128.specs.Order.{fraction_order};
 ghost use Rattle.piecewise.specs.Points as point_spec;
 ghost use Rattle.piecewise.specs.Tables as spec;
 
@@ -58,7 +58,7 @@ impl Points {
     /// Returns the y at x, on the first segment between neighbours that contains x. The error is `OutsideTable` if no
     /// segment does, and `Number` with the fault of the first operation that fails.
     pub fn at(&self, x: &Frac) -> Result<Frac, TableFault>
-        ensures { result ≡ spec.y_at self.now x.now }
+        ensures { result ≡ spec.y_at_x_on_points self.now x.now }
     {
         order_law();
         let place = self
@@ -76,7 +76,7 @@ impl Points {
     /// it is flat, the result is the x of its left end. The error is `OutsideTable` if no segment contains y, and
     /// `Number` with the fault of the first operation that fails.
     pub fn back(&self, y: &Frac) -> Result<Frac, TableFault>
-        ensures { result ≡ spec.x_at self.now y.now }
+        ensures { result ≡ spec.x_at_y_on_points self.now y.now }
     {
         let mut before = self.points[0].1.cmp(y);
         for i in 1..self.points.len() {
@@ -103,7 +103,7 @@ impl Points {
 // Reports whether each x is less than the next one. The denominators are those of fractions.
 fn rises(points: &[Point]) -> bool
     requires { 1 < length points.now }
-    ensures value { result ≡ point_spec.rises points.now }
+    ensures value { result ≡ point_spec.points_rise points.now }
     ensures denominators { OnTrue result (All (λ p. 0 < p.0.den) points.now) }
 {
     for i in 1..points.len() {
@@ -116,7 +116,7 @@ fn rises(points: &[Point]) -> bool
 
 // Reports whether one number is less than another. The denominators are those of fractions.
 fn is_less(left: &Frac, right: &Frac) -> bool
-    ensures order { result ≡ is_lt (order_of left.now right.now) }
+    ensures order { result ≡ is_lt (fraction_order left.now right.now) }
     ensures denominators { (0 < left.now.den) × (0 < right.now.den) }
 {
     left.cmp(right).is_lt()
@@ -124,7 +124,7 @@ fn is_less(left: &Frac, right: &Frac) -> bool
 
 // Reports whether a number lies between two others, inclusive, given how they compare with it.
 fn encloses(left: Ordering, right: Ordering) -> bool
-    ensures { result ≡ spec.are_around left right }
+    ensures { result ≡ spec.are_coordinates_around left right }
 {
     !matches!(
         (left, right),
@@ -134,7 +134,8 @@ fn encloses(left: Ordering, right: Ordering) -> bool
 
 // Returns the y at x on the segment.
 fn y_on(left: &Point, right: &Point, x: &Frac) -> Result<Frac, TableFault>
-    ensures { result ≡ spec.number_or_fault (spec.y_on x.now (record { left_end = left.now; right_end = right.now })) }
+    ensures { result ≡ spec.point_table_number_or_fault
+        (spec.y_on_point_segment x.now (record { left_end = left.now; right_end = right.now })) }
 {
     let line = Line {
         x0: &left.0,
@@ -147,7 +148,8 @@ fn y_on(left: &Point, right: &Point, x: &Frac) -> Result<Frac, TableFault>
 
 // Returns the x at y on the segment, or the x of its left end if it is flat.
 fn x_on(left: &Point, right: &Point, y: &Frac) -> Result<Frac, TableFault>
-    ensures { result ≡ spec.number_or_fault (spec.x_on y.now (record { left_end = left.now; right_end = right.now })) }
+    ensures { result ≡ spec.point_table_number_or_fault
+        (spec.x_on_point_segment y.now (record { left_end = left.now; right_end = right.now })) }
 {
     if left.1.cmp(&right.1).is_eq() {
         return Ok(left.0);

@@ -1,7 +1,7 @@
 -- The results of operations.
 use Rattle.std.specs.Prelude.{◌≡◌, ℕ, List, Option, Some, None, Result, Ok, Err, ⊤, if◌then◌else◌}
 use Rattle.std.specs.List.{list_all}
-use Rattle.units_io.specs.Outcomes.{Gives}
+use Rattle.units_io.specs.Outcomes.{GivesIoResult}
 use Rattle.frac128.specs.Fraction.{Fraction}
 use Rattle.frac128.specs.declared.fault.FracFault.{FracFault}
 use Rattle.quantity.specs.Amount.{Amount}
@@ -12,19 +12,19 @@ use Rattle.quantity.specs.declared.fault.QuantityFault.{QuantityFault}
 use Rattle.quantity.specs.declared.fault.QuantityFault.TheVariants.{Number, ExponentRange, OutOfMemory}
 
 -- the answer is the expected result, or an out-of-memory fault
-abbrev pub IsAnswer : Result Amount QuantityFault → Result Amount QuantityFault → Type 0
-IsAnswer answer expected = Gives OutOfMemory (λ x. x) answer expected
+abbrev pub IsQuantityAnswer : Result Amount QuantityFault → Result Amount QuantityFault → Type 0
+IsQuantityAnswer answer expected = GivesIoResult OutOfMemory (λ x. x) answer expected
 
 -- the answer is the expected result, and its only faults are those of numbers
-abbrev pub IsStepOnNumbers : Result Amount FracFault → Result Amount QuantityFault → Type 0
-IsStepOnNumbers (Ok x) expected = expected ≡ Ok x
-IsStepOnNumbers (Err fault) expected = expected ≡ Err (Number fault)
+abbrev pub IsQuantityStepOnNumbers : Result Amount FracFault → Result Amount QuantityFault → Type 0
+IsQuantityStepOnNumbers (Ok x) expected = expected ≡ Ok x
+IsQuantityStepOnNumbers (Err fault) expected = expected ≡ Err (Number fault)
 
 -- the exponents are the expected ones, or out of range if none are expected, or memory ran out
-abbrev pub AreThose : Result Exponents ExponentFault → Option Exponents → Type 0
-AreThose (Ok exponents) expected = Some exponents ≡ expected
-AreThose (Err exponent.Range) expected = None ≡ expected
-AreThose (Err exponent.OutOfMemory) expected = ⊤
+abbrev pub AreExpectedExponents : Result Exponents ExponentFault → Option Exponents → Type 0
+AreExpectedExponents (Ok exponents) expected = Some exponents ≡ expected
+AreExpectedExponents (Err exponent.Range) expected = None ≡ expected
+AreExpectedExponents (Err exponent.OutOfMemory) expected = ⊤
 
 -- the fault of an operation on exponents as one of an operation on quantities
 abbrev pub exponent_fault : ExponentFault → QuantityFault
@@ -39,7 +39,7 @@ exponents_in_range f names =
     else None
 
 -- a number and exponents combined: the fault of the number takes precedence over exponents out of range
-abbrev pub amount_from : Result Fraction FracFault → Option Exponents → Result Amount QuantityFault
-amount_from (Err fault) exponents = Err (Number fault)
-amount_from (Ok value) None = Err ExponentRange
-amount_from (Ok value) (Some exponents) = Ok (record { value = value; exponents = exponents })
+abbrev pub quantity_from : Result Fraction FracFault → Option Exponents → Result Amount QuantityFault
+quantity_from (Err fault) exponents = Err (Number fault)
+quantity_from (Ok value) None = Err ExponentRange
+quantity_from (Ok value) (Some exponents) = Ok (record { value = value; exponents = exponents })

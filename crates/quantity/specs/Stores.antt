@@ -1,7 +1,7 @@
 -- The powers in a list or in a search tree as a plain list, and those that remain in a walk.
 use Rattle.std.specs.Prelude.{◌≡◌, ℕ, List, [], ◌∷◌, Option, Some, None}
 use Rattle.frac128.specs.Fraction.{Fraction}
-use Rattle.quantity.specs.Merges.{Powers}
+use Rattle.quantity.specs.Merges.{UnitPowers}
 use Rattle.quantity.specs.declared.store.Store.{Store}
 use Rattle.quantity.specs.declared.store.Store.TheVariants.{One, Few, Many}
 use Rattle.quantity.specs.declared.walk.Entry.{Entry}
@@ -9,21 +9,21 @@ use Rattle.quantity.specs.declared.walk.Walk.{Walk}
 use Rattle.quantity.specs.declared.walk.Walk.TheVariants.{Slice, Entries}
 
 -- the stored powers
-abbrev pub powers_of : Store → Powers
-powers_of (One power) = power ∷ []
-powers_of (Few items) = items.items
-powers_of (Many tree) = tree.entries
+abbrev pub stored_powers : Store → UnitPowers
+stored_powers (One power) = power ∷ []
+stored_powers (Few items) = items.items
+stored_powers (Many tree) = tree.entries
 
 -- the remaining powers
-abbrev pub rest_of : Walk → Powers
-rest_of (Slice powers) = powers.now
-rest_of (Entries entries) = entries
+abbrev pub remaining_powers : Walk → UnitPowers
+remaining_powers (Slice powers) = powers.now
+remaining_powers (Entries entries) = entries
 
 -- the power that a walk returns
-abbrev pub entry_power : Entry → List ℕ × Fraction
-entry_power entry = (entry.name.now, entry.exponent)
+abbrev pub power_of_walk_entry : Entry → List ℕ × Fraction
+power_of_walk_entry entry = (entry.name.now, entry.exponent)
 
 -- the first power is taken and the others remain; no power is taken only if none remains
-abbrev pub TakesFirst : Powers → Option Entry → Powers → Type 0
-TakesFirst old (Some entry) new = old ≡ entry_power entry ∷ new
-TakesFirst old None new = old ≡ []
+abbrev pub TakesFirstPower : UnitPowers → Option Entry → UnitPowers → Type 0
+TakesFirstPower old (Some entry) new = old ≡ power_of_walk_entry entry ∷ new
+TakesFirstPower old None new = old ≡ []

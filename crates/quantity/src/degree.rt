@@ -1,7 +1,7 @@
 //! Exponents of powers.
 
 ghost use Rattle.std.specs.Prelude.{◌≡◌, ◌<◌, ◌≤◌, unsigned_abs};
-ghost use Rattle.quantity.specs.Degrees.{as_degree};
+ghost use Rattle.quantity.specs.Degrees.{as_power_degree};
 
 use frac128::Frac;
 use std::marker::Model;
@@ -18,13 +18,13 @@ pub(crate) struct Degree {
 
 impl Model for Degree {
     ghost use Rattle.frac128.specs.Fraction.{Fraction};
-    ghost use Rattle.quantity.specs.Degrees.{IsDegree};
+    ghost use Rattle.quantity.specs.Degrees.{IsPowerDegree};
 
     ghost Value = { Fraction };
 
     ghost view = { λ d. record { num = d.num; den = d.den } };
 
-    ghost invariant = { λ d. IsDegree (record { num = d.num; den = d.den }) };
+    ghost invariant = { λ d. IsPowerDegree (record { num = d.num; den = d.den }) };
 
     ghost inverse = { λ d. record { num = d.num; den = d.den } };
 }
@@ -32,7 +32,7 @@ impl Model for Degree {
 impl Degree {
     // Returns the fraction as the exponent of a power, or `None` if it is out of range.
     pub(crate) fn of(x: &Frac) -> Option<Degree>
-        ensures { result ≡ as_degree x.now }
+        ensures { result ≡ as_power_degree x.now }
     {
         let (num, den) = (x.num(), x.den());
         if num.unsigned_abs() <= MOST && den.unsigned_abs() <= MOST {

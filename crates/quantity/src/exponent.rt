@@ -43,27 +43,27 @@ impl Model for Exponent {
 impl Exponent {
     // Returns the exponent of a name that is absent.
     pub(crate) fn zero() -> Exponent
-        ensures { result ≡ fraction_spec.whole (pos 0) }
+        ensures { result ≡ fraction_spec.whole_fraction (pos 0) }
     {
         Exponent { num: 0, den: 1 }
     }
 
     // Returns the exponent of a name on its own.
     pub(crate) fn one() -> Exponent
-        ensures { result ≡ fraction_spec.whole (pos 1) }
+        ensures { result ≡ fraction_spec.whole_fraction (pos 1) }
     {
         Exponent { num: 1, den: 1 }
     }
 
     pub(crate) fn is_zero(&self) -> bool
-        ensures value { result ≡ sign.is_zero self.now }
+        ensures value { result ≡ sign.is_zero_fraction self.now }
         ensures kept { IsExponent self.now }
     {
         self.num.unsigned_abs() == 0
     }
 
     pub(crate) fn negate(&self) -> Exponent
-        ensures { result ≡ fraction_spec.negative_of self.now }
+        ensures { result ≡ fraction_spec.opposite_fraction self.now }
     {
         Exponent {
             num: -self.num,
@@ -115,7 +115,7 @@ fn lowest(num: i32, den: u32) -> Option<Exponent>
 
 // Returns the whole number as an exponent, or `None` if it is out of range.
 fn whole(num: i32) -> Option<Exponent>
-    ensures { result ≡ as_exponent (fraction_spec.whole num) }
+    ensures { result ≡ as_exponent (fraction_spec.whole_fraction num) }
 {
     if u128::from(num.unsigned_abs()) <= MOST_NUM {
         Some(Exponent { num, den: 1 })

@@ -1,7 +1,7 @@
 //! Powers with a fraction as exponent.
 
 ghost use Rattle.std.specs.Prelude.{◌≡◌};
-ghost use Rattle.quantity.specs.Answers.{IsAnswer, amount_from};
+ghost use Rattle.quantity.specs.Answers.{IsQuantityAnswer, quantity_from};
 ghost use Rattle.quantity.specs.Powers as spec;
 
 use crate::degree::Degree;
@@ -18,14 +18,14 @@ impl Quantity {
     /// if p or q has a magnitude above 32,767; `Number`, with `NoExactRoot` if the number has no root q, or with the
     /// fault of the power p of the root; `ExponentRange` if the product of an exponent and p/q is out of range.
     pub fn pow(&self, alloc: Global, by: &Quantity) -> Result<Quantity, QuantityFault>
-        ensures { IsAnswer result (spec.power_of self.now by.now) }
+        ensures { IsQuantityAnswer result (spec.quantity_power self.now by.now) }
     {
         self.copy(alloc)?.into_power(alloc, by)
     }
 
     /// Same as `pow`, but takes ownership of the quantity and copies nothing of it.
     pub fn into_power(self, alloc: Global, by: &Quantity) -> Result<Quantity, QuantityFault>
-        ensures { IsAnswer result (spec.power_of self by.now) }
+        ensures { IsQuantityAnswer result (spec.quantity_power self by.now) }
     {
         if !by.is_number() {
             return Err(QuantityFault::ExponentNotNumber);
@@ -38,7 +38,7 @@ impl Quantity {
 
     // Returns the power with this exponent.
     fn raised_to(self, alloc: Global, degree: &Degree) -> Result<Quantity, QuantityFault>
-        ensures { IsAnswer result (amount_from (spec.rational_power self.value degree.now)
+        ensures { IsQuantityAnswer result (quantity_from (spec.quantity_number_power self.value degree.now)
             (spec.power_exponents self.exponents degree.now)) }
     {
         let value = power_of_root(&self.value, degree)?;
@@ -49,7 +49,7 @@ impl Quantity {
 
 // Returns the power of the root of a number.
 fn power_of_root(x: &Frac, degree: &Degree) -> Result<Frac, FracFault>
-    ensures { result ≡ spec.rational_power x.now degree.now }
+    ensures { result ≡ spec.quantity_number_power x.now degree.now }
 {
     x.root(degree.den())?.pow(degree.num())
 }

@@ -1,9 +1,9 @@
 //! Laws of the definitions that the contracts cite.
 
-ghost use Rattle.quantity.specs.Amount.{ConformLaw};
+ghost use Rattle.quantity.specs.Amount.{ConformingExponentsLaw};
 ghost use Rattle.quantity.specs.Examples.{QuantityExamplesLaw};
 ghost use Rattle.quantity.specs.Exponents.{SameExponentsLaw};
-ghost use Rattle.quantity.specs.Products.{ProductLaw};
+ghost use Rattle.quantity.specs.Products.{ProductExponentsLaw};
 ghost use Rattle.quantity.specs.OperationFaults.{QuantityMemoryLaw};
 
 use frac128::reduced_law;
@@ -16,12 +16,12 @@ pub fn same_exponents_law()
 /// Quantities conform if and only if each name has the same exponent in both, and they are reciprocal if and only if
 /// the exponents of each name differ exactly in sign.
 pub fn conform_law()
-    ensures { ConformLaw }
+    ensures { ConformingExponentsLaw }
 {}
 
 /// The exponents of a product are the sums of the exponents of its factors, and those of a quotient the differences.
 pub fn product_law()
-    ensures { ProductLaw }
+    ensures { ProductExponentsLaw }
 {
     reduced_law();
 }

@@ -1,7 +1,7 @@
 //! A name with its exponent.
 
 ghost use Rattle.std.specs.Prelude.{◌≡◌, pos, IfOk};
-ghost use Rattle.frac128.specs.Fraction.{whole};
+ghost use Rattle.frac128.specs.Fraction.{whole_fraction};
 
 use crate::exponent::Exponent;
 use crate::name::Name;
@@ -18,11 +18,11 @@ pub(crate) struct Power {
 impl Model for Power {
     ghost use Rattle.std.specs.Prelude.{List, ℕ};
     ghost use Rattle.frac128.specs.Fraction.{Fraction};
-    ghost use Rattle.quantity.specs.Amount.{power_code};
+    ghost use Rattle.quantity.specs.Amount.{unit_power_code};
 
     ghost Value = { List ℕ × Fraction };
 
-    ghost coded = { power_code };
+    ghost coded = { unit_power_code };
 
     ghost view = { λ p. (p.name, p.exponent) };
 }
@@ -76,7 +76,7 @@ impl Power {
 
     // Creates a power of a name with the exponent 1.
     pub(crate) fn of(alloc: Global, name: &[u8]) -> Result<Power, AllocError>
-        ensures { IfOk result (λ power. power ≡ (name.now, whole (pos 1))) }
+        ensures { IfOk result (λ power. power ≡ (name.now, whole_fraction (pos 1))) }
     {
         Ok(Power {
             name: Name::of(alloc, name)?,

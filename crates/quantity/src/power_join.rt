@@ -1,10 +1,10 @@
 //! Merging powers into a search tree.
 
 ghost use Rattle.std.specs.Prelude.{◌∷◌, []};
-ghost use Rattle.quantity.specs.Exponents.{IsPower};
+ghost use Rattle.quantity.specs.Exponents.{IsUnitPower};
 ghost use Rattle.quantity.specs.Factors.{exponent_in};
-ghost use Rattle.quantity.specs.Merges.{AreInOrder, ArePowers, merge_of};
-ghost use Rattle.quantity.specs.Stores.{entry_power, rest_of};
+ghost use Rattle.quantity.specs.Merges.{ArePowers, ArePowersInOrder, merge_of_powers};
+ghost use Rattle.quantity.specs.Stores.{power_of_walk_entry, remaining_powers};
 
 use crate::exponent::Exponent;
 use crate::factor::Factor;
@@ -22,10 +22,10 @@ pub(crate) fn join_all(
     right: Walk<'_>,
     factor: Factor,
 ) -> Result<BTreeMap<Name, Exponent>, ExponentFault>
-    requires left { AreInOrder left.entries }
-    requires right { AreInOrder (rest_of right) }
+    requires left { ArePowersInOrder left.entries }
+    requires right { ArePowersInOrder (remaining_powers right) }
     ensures { ArePowers (λ tree. tree.entries) result
-        (merge_of (exponent_in factor) left.entries (rest_of right.entry)) }
+        (merge_of_powers (exponent_in factor) left.entries (remaining_powers right.entry)) }
 {
     reduced_law();
     let (mut tree, mut right) = (left, right);
@@ -42,10 +42,10 @@ fn join(
     power: Entry<'_>,
     factor: Factor,
 ) -> Result<(), ExponentFault>
-    requires tree { AreInOrder tree.old.entries }
-    requires power { IsPower (entry_power power) }
+    requires tree { ArePowersInOrder tree.old.entries }
+    requires power { IsUnitPower (power_of_walk_entry power) }
     ensures { ArePowers (λ _. tree.new.entries) result
-        (merge_of (exponent_in factor) tree.old.entries (entry_power power.entry ∷ [])) }
+        (merge_of_powers (exponent_in factor) tree.old.entries (power_of_walk_entry power.entry ∷ [])) }
 {
     reduced_law();
     let exponent = factor.exponent(power.exponent);

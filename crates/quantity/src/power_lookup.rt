@@ -4,10 +4,10 @@ ghost use Rattle.std.specs.Prelude.{◌≡◌, ◌&&◌, pos, nat_eq, unwrap_or}
 ghost use Rattle.std.specs.Cmp.Lexicographic.{pointwise, slice_cmp};
 ghost use Rattle.std.specs.FinMap as map;
 ghost use Rattle.std.specs.Ordering.{nat_cmp};
-ghost use Rattle.frac128.specs.Fraction.{whole};
-ghost use Rattle.quantity.specs.Amount.{matches, same_fraction};
+ghost use Rattle.frac128.specs.Fraction.{whole_fraction};
+ghost use Rattle.quantity.specs.Amount.{are_equal_exponents, powers_match};
 ghost use Rattle.quantity.specs.Factors as spec;
-ghost use Rattle.quantity.specs.Stores.{rest_of};
+ghost use Rattle.quantity.specs.Stores.{remaining_powers};
 
 use crate::exponent::Exponent;
 use crate::factor::Factor;
@@ -16,7 +16,8 @@ use crate::walk::{Entry, Walk};
 
 // Returns the exponent of a name, or 0 if the name is absent.
 pub(crate) fn exponent_in(powers: Walk<'_>, name: &[u8]) -> Exponent
-    ensures { result ≡ unwrap_or (map.find (slice_cmp nat_cmp) name.now (rest_of powers.entry)) (whole (pos 0)) }
+    ensures { result ≡ unwrap_or (map.find (slice_cmp nat_cmp) name.now (remaining_powers powers.entry))
+        (whole_fraction (pos 0)) }
 {
     let mut powers = powers;
     while let Some(power) = powers.next() {
@@ -30,7 +31,7 @@ pub(crate) fn exponent_in(powers: Walk<'_>, name: &[u8]) -> Exponent
 // Reports whether two lists have the same names in the same order, and each exponent on the left is the exponent on
 // the right as the factor uses it.
 pub(crate) fn same_lists(left: &[Power], right: &[Power], factor: Factor) -> bool
-    ensures { result ≡ matches (spec.exponent_in factor) left.now right.now }
+    ensures { result ≡ powers_match (spec.exponent_in factor) left.now right.now }
 {
     let (mut left, mut right) = (left, right);
     loop {
@@ -50,7 +51,8 @@ pub(crate) fn same_lists(left: &[Power], right: &[Power], factor: Factor) -> boo
 
 // Reports the same as `same_lists`, for two walks.
 pub(crate) fn same_powers(left: Walk<'_>, right: Walk<'_>, factor: Factor) -> bool
-    ensures { result ≡ matches (spec.exponent_in factor) (rest_of left.entry) (rest_of right.entry) }
+    ensures { result ≡ powers_match (spec.exponent_in factor) (remaining_powers left.entry)
+        (remaining_powers right.entry) }
 {
     let (mut left, mut right) = (left, right);
     loop {
@@ -69,7 +71,7 @@ pub(crate) fn same_powers(left: Walk<'_>, right: Walk<'_>, factor: Factor) -> bo
 // Reports whether two powers have the same name, and the left exponent is the right one as the factor uses it.
 fn same_power(left: &Entry<'_>, right: &Entry<'_>, factor: Factor) -> bool
     ensures { result ≡ (pointwise nat_eq left.now.name.now right.now.name.now
-        && same_fraction left.now.exponent (spec.exponent_in factor right.now.exponent)) }
+        && are_equal_exponents left.now.exponent (spec.exponent_in factor right.now.exponent)) }
 {
     left.name.as_bytes() == right.name.as_bytes()
         && left.exponent == factor.exponent(right.exponent)

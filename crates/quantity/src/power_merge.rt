@@ -1,9 +1,9 @@
 //! Merging two lists of powers.
 
 ghost use Rattle.std.specs.Prelude.{◌≡◌, ◌∷◌, [], All, IfOk, map};
-ghost use Rattle.quantity.specs.Exponents.{IsPower};
+ghost use Rattle.quantity.specs.Exponents.{IsUnitPower};
 ghost use Rattle.quantity.specs.Factors.{exponent_in};
-ghost use Rattle.quantity.specs.Merges.{AreInOrder, ArePowers, merge_of, power_by};
+ghost use Rattle.quantity.specs.Merges.{ArePowers, ArePowersInOrder, merge_of_powers, unit_power_by};
 ghost use Rattle.quantity.specs.Places.{power_place};
 
 use crate::factor::Factor;
@@ -29,9 +29,9 @@ pub(crate) fn merge(
     right: &[Power],
     factor: Factor,
 ) -> Result<Vec<Power>, ExponentFault>
-    requires left { AreInOrder left.items }
-    requires right { AreInOrder right.now }
-    ensures { ArePowers (λ list. list.items) result (merge_of (exponent_in factor) left.items right.now) }
+    requires left { ArePowersInOrder left.items }
+    requires right { ArePowersInOrder right.now }
+    ensures { ArePowers (λ list. list.items) result (merge_of_powers (exponent_in factor) left.items right.now) }
 {
     reduced_law();
     let (mut powers, mut right) = (left, right);
@@ -49,10 +49,10 @@ fn join(
     power: &Power,
     factor: Factor,
 ) -> Result<(), ExponentFault>
-    requires list { All IsPower powers.old.items }
-    requires power { IsPower power.now }
+    requires list { All IsUnitPower powers.old.items }
+    requires power { IsUnitPower power.now }
     ensures { ArePowers (λ _. powers.new.items) result
-        (merge_of (exponent_in factor) powers.old.items (power.now ∷ [])) }
+        (merge_of_powers (exponent_in factor) powers.old.items (power.now ∷ [])) }
 {
     reduced_law();
     let exponent = factor.exponent(power.exponent());
@@ -93,7 +93,7 @@ pub(crate) fn copies(
     powers: &[Power],
     factor: Factor,
 ) -> Result<Vec<Power>, AllocError>
-    ensures { IfOk result (λ copies. copies.items ≡ map (power_by (exponent_in factor)) powers.now) }
+    ensures { IfOk result (λ copies. copies.items ≡ map (unit_power_by (exponent_in factor)) powers.now) }
 {
     let mut copies = Vec::with_capacity(alloc, powers.len())?;
     for power in powers {

@@ -1,8 +1,8 @@
 //! Multiplying the exponents of a list of powers.
 
 ghost use Rattle.std.specs.Prelude.{All};
-ghost use Rattle.quantity.specs.Exponents.{IsPower, exponent_product};
-ghost use Rattle.quantity.specs.Merges.{ArePowers, IsPut, scaled_powers};
+ghost use Rattle.quantity.specs.Exponents.{IsUnitPower, exponent_product};
+ghost use Rattle.quantity.specs.Merges.{ArePowers, IsPowerPut, scaled_powers};
 
 use crate::degree::Degree;
 use crate::fault::ExponentFault;
@@ -16,7 +16,7 @@ pub(crate) fn scale(
     items: Vec<Power>,
     degree: &Degree,
 ) -> Result<Vec<Power>, ExponentFault>
-    requires { All IsPower items.items }
+    requires { All IsUnitPower items.items }
     ensures { ArePowers (λ list. list.items) result (scaled_powers degree.now items.items) }
 {
     reduced_law();
@@ -30,7 +30,7 @@ pub(crate) fn scale(
 
 // Appends a power with its exponent multiplied, unless that exponent is 0.
 fn put_product(powers: &mut Vec<Power>, power: Power, degree: &Degree) -> Result<(), ExponentFault>
-    ensures { IsPut result powers.old.items powers.new.items
+    ensures { IsPowerPut result powers.old.items powers.new.items
         (power.0, exponent_product power.1 degree.now) }
 {
     let product = match power.exponent().times(degree) {

@@ -2,9 +2,9 @@
 
 ghost use Rattle.std.specs.Prelude.{◌≡◌, ◌==◌, ◌++◌, ◌↔◌, ℕ, List, pos, IfOk, IsTrue, OnOk, Some};
 ghost use Rattle.std.specs.FinMap as map;
-ghost use Rattle.frac128.specs.Fraction.{negative_of, whole};
-ghost use Rattle.quantity.specs.Amount.{are_reciprocal, conform};
-ghost use Rattle.quantity.specs.Answers.{AreThose};
+ghost use Rattle.frac128.specs.Fraction.{opposite_fraction, whole_fraction};
+ghost use Rattle.quantity.specs.Amount.{are_reciprocal_exponents, exponents_conform};
+ghost use Rattle.quantity.specs.Answers.{AreExpectedExponents};
 ghost use Rattle.quantity.specs.Exponents.{AreExponents, exponent_of};
 ghost use Rattle.quantity.specs.Factors.{exponents_with};
 ghost use Rattle.quantity.specs.Powers.{power_exponents};
@@ -38,16 +38,16 @@ impl Drop for Powers {
 impl Model for Powers {
     ghost use Rattle.quantity.specs.Amount.{exponents_code};
     ghost use Rattle.quantity.specs.Exponents.{Exponents};
-    ghost use Rattle.quantity.specs.Merges.{AreInOrder, exponents_in};
-    ghost use Rattle.quantity.specs.Stores.{powers_of};
+    ghost use Rattle.quantity.specs.Merges.{ArePowersInOrder, exponents_in};
+    ghost use Rattle.quantity.specs.Stores.{stored_powers};
 
     ghost Value = { Exponents };
 
     ghost coded = { exponents_code };
 
-    ghost view = { λ powers. exponents_in (powers_of powers.store) };
+    ghost view = { λ powers. exponents_in (stored_powers powers.store) };
 
-    ghost invariant = { λ powers. AreInOrder (powers_of powers.store) };
+    ghost invariant = { λ powers. ArePowersInOrder (stored_powers powers.store) };
 }
 
 impl Powers {
@@ -61,7 +61,7 @@ impl Powers {
 
     // Creates the exponents of a single name with the exponent 1.
     pub(crate) fn one(alloc: Global, name: &[u8]) -> Result<Powers, AllocError>
-        ensures { IfOk result (λ powers. powers ≡ map.insert map.empty name.now (whole (pos 1))) }
+        ensures { IfOk result (λ powers. powers ≡ map.insert map.empty name.now (whole_fraction (pos 1))) }
     {
         let store = Store::One(Power::of(alloc, name)?);
         Ok(Powers { store })
@@ -97,7 +97,7 @@ impl Powers {
 
     // Reports whether two maps are equal.
     pub(crate) fn conform(&self, other: &Powers) -> bool
-        ensures value { result ≡ conform self.now other.now }
+        ensures value { result ≡ exponents_conform self.now other.now }
         ensures equal { IsTrue result ↔ (self.now ≡ other.now) }
         ensures same { IsTrue result ↔ ((name : List ℕ)
             → exponent_of self.now name ≡ exponent_of other.now name) }
@@ -107,9 +107,9 @@ impl Powers {
 
     // Reports whether each exponent is the negative of the exponent that its name has in the other map.
     pub(crate) fn are_reciprocal(&self, other: &Powers) -> bool
-        ensures value { result ≡ are_reciprocal self.now other.now }
+        ensures value { result ≡ are_reciprocal_exponents self.now other.now }
         ensures opposite { IsTrue result ↔ ((name : List ℕ)
-            → exponent_of self.now name ≡ negative_of (exponent_of other.now name)) }
+            → exponent_of self.now name ≡ opposite_fraction (exponent_of other.now name)) }
     {
         self.store.matches(&other.store, Factor::Inverse)
     }
@@ -121,7 +121,7 @@ impl Powers {
         other: &Powers,
         factor: Factor,
     ) -> Result<Powers, ExponentFault>
-        ensures { AreThose result (exponents_with factor self other.now) }
+        ensures { AreExpectedExponents result (exponents_with factor self other.now) }
     {
         reduced_law();
         let Powers { store: own } = self;
@@ -131,7 +131,7 @@ impl Powers {
 
     // Returns the exponents of the product. It takes ownership of the exponents of both factors.
     pub(crate) fn times_all(self, alloc: Global, other: Powers) -> Result<Powers, ExponentFault>
-        ensures { AreThose result (product_exponents self other) }
+        ensures { AreExpectedExponents result (product_exponents self other) }
     {
         if self.is_empty() {
             other.number_facts();
@@ -152,7 +152,7 @@ impl Powers {
 
     // Returns the exponents of a power.
     pub(crate) fn into_power(self, alloc: Global, degree: &Degree) -> Result<Powers, ExponentFault>
-        ensures { AreThose result (power_exponents self degree.now) }
+        ensures { AreExpectedExponents result (power_exponents self degree.now) }
     {
         reduced_law();
         degree.denominator_facts();

@@ -1,7 +1,7 @@
 //! Products and quotients.
 
-ghost use Rattle.quantity.specs.Answers.{IsAnswer, IsStepOnNumbers};
-ghost use Rattle.quantity.specs.Products.{plain_amount, product_of, quotient_of};
+ghost use Rattle.quantity.specs.Answers.{IsQuantityAnswer, IsQuantityStepOnNumbers};
+ghost use Rattle.quantity.specs.Products.{plain_quantity, quantity_product, quantity_quotient};
 
 use crate::factor::Factor;
 use crate::fault::QuantityFault;
@@ -13,7 +13,7 @@ impl Quantity {
     /// Returns the product, whose exponents are the sums of the exponents of both quantities. The error is `Number` if
     /// the product of the numbers overflows, and otherwise `ExponentRange` if a sum of two exponents is out of range.
     pub fn mul(&self, alloc: Global, other: &Quantity) -> Result<Quantity, QuantityFault>
-        ensures { IsAnswer result (product_of self.now other.now) }
+        ensures { IsQuantityAnswer result (quantity_product self.now other.now) }
     {
         self.copy(alloc)?.times(alloc, other)
     }
@@ -22,14 +22,14 @@ impl Quantity {
     /// `Number` if the number of the other quantity is 0 or the quotient of the numbers overflows, and otherwise
     /// `ExponentRange` if a difference of two exponents is out of range.
     pub fn div(&self, alloc: Global, other: &Quantity) -> Result<Quantity, QuantityFault>
-        ensures { IsAnswer result (quotient_of self.now other.now) }
+        ensures { IsQuantityAnswer result (quantity_quotient self.now other.now) }
     {
         self.copy(alloc)?.over(alloc, other)
     }
 
     /// Same as `mul`, but takes ownership of `self` and copies nothing of it.
     pub fn times(self, alloc: Global, other: &Quantity) -> Result<Quantity, QuantityFault>
-        ensures { IsAnswer result (product_of self other.now) }
+        ensures { IsQuantityAnswer result (quantity_product self other.now) }
     {
         let value = self.value.mul(&other.value)?;
         let powers = self.powers.times(alloc, &other.powers, Factor::Plain)?;
@@ -38,7 +38,7 @@ impl Quantity {
 
     /// Same as `div`, but takes ownership of `self` and copies nothing of it.
     pub fn over(self, alloc: Global, other: &Quantity) -> Result<Quantity, QuantityFault>
-        ensures { IsAnswer result (quotient_of self other.now) }
+        ensures { IsQuantityAnswer result (quantity_quotient self other.now) }
     {
         let value = self.value.div(&other.value)?;
         let powers = self.powers.times(alloc, &other.powers, Factor::Inverse)?;
@@ -47,7 +47,7 @@ impl Quantity {
 
     /// Same as `mul`, but takes ownership of both quantities. It copies no name if `self` is a number.
     pub fn times_all(self, alloc: Global, other: Quantity) -> Result<Quantity, QuantityFault>
-        ensures { IsAnswer result (product_of self other) }
+        ensures { IsQuantityAnswer result (quantity_product self other) }
     {
         let value = self.value.mul(&other.value)?;
         let powers = self.powers.times_all(alloc, other.powers)?;
@@ -57,7 +57,7 @@ impl Quantity {
     /// Returns the product with a number. The exponents do not change. The error is that of the product of the
     /// numbers.
     pub fn times_number(self, x: &Frac) -> Result<Quantity, FracFault>
-        ensures { IsStepOnNumbers result (product_of self (plain_amount x.now)) }
+        ensures { IsQuantityStepOnNumbers result (quantity_product self (plain_quantity x.now)) }
     {
         self.powers.number_facts();
         let value = self.value.mul(x)?;
@@ -70,7 +70,7 @@ impl Quantity {
     /// Returns the quotient by a number. The exponents do not change. The error is that of the quotient of the
     /// numbers.
     pub fn over_number(self, x: &Frac) -> Result<Quantity, FracFault>
-        ensures { IsStepOnNumbers result (quotient_of self (plain_amount x.now)) }
+        ensures { IsQuantityStepOnNumbers result (quantity_quotient self (plain_quantity x.now)) }
     {
         self.powers.number_facts();
         let value = self.value.div(x)?;

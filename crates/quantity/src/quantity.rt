@@ -2,7 +2,7 @@
 
 ghost use Rattle.std.specs.Prelude.{◌≡◌, pos, IfOk};
 ghost use Rattle.std.specs.FinMap as map;
-ghost use Rattle.frac128.specs.Fraction.{IsFrac, negative_of, whole};
+ghost use Rattle.frac128.specs.Fraction.{IsFrac, opposite_fraction, whole_fraction};
 ghost use Rattle.quantity.specs.Amount as spec;
 ghost use Rattle.quantity.specs.Exponents.{AreExponents, exponent_of};
 
@@ -21,11 +21,11 @@ pub struct Quantity {
 }
 
 impl Model for Quantity {
-    ghost use Rattle.quantity.specs.Amount.{Amount, amount_code};
+    ghost use Rattle.quantity.specs.Amount.{Amount, quantity_code};
 
     ghost Value = { Amount };
 
-    ghost coded = { amount_code };
+    ghost coded = { quantity_code };
 
     ghost view = { λ q. record { value = q.value; exponents = q.powers } };
 }
@@ -43,7 +43,7 @@ impl Quantity {
 
     /// Returns the number 1.
     pub fn unity(alloc: Global) -> Quantity
-        ensures { result ≡ record { value = whole (pos 1); exponents = map.empty } }
+        ensures { result ≡ record { value = whole_fraction (pos 1); exponents = map.empty } }
     {
         Quantity::number(alloc, one())
     }
@@ -51,8 +51,8 @@ impl Quantity {
     /// Returns one unit of a primitive: the number 1 with the exponent 1 of its name. Fails only if memory runs out.
     pub fn one(alloc: Global, name: &[u8]) -> Result<Quantity, AllocError>
         ensures { IfOk result (λ q. q ≡ record {
-          value = whole (pos 1);
-          exponents = map.insert map.empty name.now (whole (pos 1));
+          value = whole_fraction (pos 1);
+          exponents = map.insert map.empty name.now (whole_fraction (pos 1));
         }) }
     {
         Ok(Quantity {
@@ -73,14 +73,14 @@ impl Quantity {
 
     /// Returns the quantity with the sign of its number changed. Fails only if memory runs out.
     pub fn negate(&self, alloc: Global) -> Result<Quantity, AllocError>
-        ensures { IfOk result (λ q. q ≡ record self.now { value = negative_of self.now.value }) }
+        ensures { IfOk result (λ q. q ≡ record self.now { value = opposite_fraction self.now.value }) }
     {
         Ok(self.copy(alloc)?.into_negative())
     }
 
     /// Same as `negate`, but takes ownership of the quantity and copies nothing of it.
     pub fn into_negative(self) -> Quantity
-        ensures { result ≡ record self { value = negative_of self.value } }
+        ensures { result ≡ record self { value = opposite_fraction self.value } }
     {
         Quantity {
             value: self.value.negate(),
@@ -114,7 +114,7 @@ impl Quantity {
 
     /// Reports whether no name has an exponent.
     pub fn is_number(&self) -> bool
-        ensures { result ≡ spec.is_number self.now }
+        ensures { result ≡ spec.has_no_exponents self.now }
     {
         self.powers.is_empty()
     }
@@ -129,7 +129,7 @@ fn value_facts(x: &Frac)
 
 // Returns the number 1.
 fn one() -> Frac
-    ensures { result ≡ whole (pos 1) }
+    ensures { result ≡ whole_fraction (pos 1) }
 {
     Frac::new(1, 1).unwrap()
 }

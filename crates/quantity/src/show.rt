@@ -1,8 +1,8 @@
 //! The text of a quantity.
 
 ghost use Rattle.std.specs.Prelude.{◌≡◌, ◌++◌, IfOk, OnOk};
-ghost use Rattle.digits_print.specs.Styles.{IsStyle};
-ghost use Rattle.quantity.specs.Text.{amount_text};
+ghost use Rattle.digits_print.specs.Styles.{IsPrintStyle};
+ghost use Rattle.quantity.specs.Text.{quantity_text};
 
 use crate::quantity::Quantity;
 use digits_print::{Style, print_number};
@@ -14,8 +14,8 @@ impl Quantity {
     /// with negative ones, as in `1 kg m^2 / K mol s^2`. An exponent of 1 is omitted, and one with a denominator above
     /// 1 is written as in `m^1|2`. Fails only if memory runs out.
     pub fn show(&self, alloc: Global, style: Style) -> Result<Text, AllocError>
-        requires { IsStyle style }
-        ensures { IfOk result (λ text. text ≡ amount_text style self.now) }
+        requires { IsPrintStyle style }
+        ensures { IfOk result (λ text. text ≡ quantity_text style self.now) }
     {
         let mut text = print_number(alloc, &self.value, style)?.into_bytes();
         self.powers.put_text(alloc, &mut text)?;
@@ -24,8 +24,8 @@ impl Quantity {
 
     /// Appends the text that `show` returns to another text. Fails only if memory runs out.
     pub fn put(&self, alloc: Global, text: &mut Vec<u8>, style: Style) -> Result<(), AllocError>
-        requires { IsStyle style }
-        ensures { OnOk result (text.new.items ≡ text.old.items ++ amount_text style self.now) }
+        requires { IsPrintStyle style }
+        ensures { OnOk result (text.new.items ≡ text.old.items ++ quantity_text style self.now) }
     {
         text.extend_from_slice(print_number(alloc, &self.value, style)?.as_bytes())?;
         self.powers.put_text(alloc, text)

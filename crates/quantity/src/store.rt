@@ -1,14 +1,14 @@
 //! The storage of the powers of a quantity.
 
 ghost use Rattle.std.specs.Prelude.{◌≡◌, ◌==◌, ◌++◌, ◌∷◌, [], All, IfOk, IfSome, OnOk, length, map};
-ghost use Rattle.quantity.specs.Amount.{matches};
-ghost use Rattle.frac128.specs.Fraction.{Fraction, IsReduced};
-ghost use Rattle.quantity.specs.Exponents.{IsPower};
+ghost use Rattle.quantity.specs.Amount.{powers_match};
+ghost use Rattle.frac128.specs.Fraction.{Fraction, IsReducedFraction};
+ghost use Rattle.quantity.specs.Exponents.{IsUnitPower};
 ghost use Rattle.quantity.specs.Factors.{exponent_in};
-ghost use Rattle.quantity.specs.Merges.{AreInOrder, ArePowers, as_exponent, merge_of, power_by, put_some};
-ghost use Rattle.quantity.specs.Merges.{scaled_powers};
-ghost use Rattle.quantity.specs.Stores.{powers_of, rest_of};
-ghost use Rattle.quantity.specs.Text.{listed_text};
+ghost use Rattle.quantity.specs.Merges.{ArePowers, ArePowersInOrder, as_exponent, merge_of_powers, put_nonzero_power};
+ghost use Rattle.quantity.specs.Merges.{unit_power_by, scaled_powers};
+ghost use Rattle.quantity.specs.Stores.{remaining_powers, stored_powers};
+ghost use Rattle.quantity.specs.Text.{listed_powers_text};
 
 use crate::degree::Degree;
 use crate::exponent::Exponent;
@@ -43,7 +43,7 @@ pub(crate) enum Store {
 impl Store {
     // Creates a store without powers.
     pub(crate) fn new(alloc: Global) -> Store
-        ensures { powers_of result ≡ [] }
+        ensures { stored_powers result ≡ [] }
     {
         Store::Few(Vec::new(alloc))
     }
@@ -51,8 +51,8 @@ impl Store {
     // Creates a store of a power with this exponent, or an empty one if the exponent is 0. `None` is the
     // exponent of a fraction that is out of range.
     fn of(alloc: Global, power: Power, exponent: Option<Exponent>) -> Result<Store, ExponentFault>
-        ensures { (e : Fraction) → IsReduced e → exponent ≡ as_exponent e
-            → ArePowers powers_of result (put_some (power.0, e) []) }
+        ensures { (e : Fraction) → IsReducedFraction e → exponent ≡ as_exponent e
+            → ArePowers stored_powers result (put_nonzero_power (power.0, e) []) }
     {
         let Some(exponent) = exponent else {
             return Err(ExponentFault::Range);
@@ -64,7 +64,7 @@ impl Store {
     }
 
     pub(crate) fn is_empty(&self) -> bool
-        ensures { result ≡ (length (powers_of self.now) == 0) }
+        ensures { result ≡ (length (stored_powers self.now) == 0) }
     {
         match self {
             Store::One(_) => false,
@@ -75,7 +75,7 @@ impl Store {
 
     // Returns the powers as a slice, or `None` if they are in a tree.
     fn list(&self) -> Option<&[Power]>
-        ensures { IfSome result (λ list. list.now ≡ powers_of self.now) }
+        ensures { IfSome result (λ list. list.now ≡ stored_powers self.now) }
     {
         match self {
             Store::One(power) => Some(slice::from_ref(power)),
@@ -86,7 +86,7 @@ impl Store {
 
     // Iterates over the powers.
     pub(crate) fn walk(&self) -> Walk<'_>
-        ensures { rest_of result ≡ powers_of self.now }
+        ensures { remaining_powers result ≡ stored_powers self.now }
     {
         match self {
             Store::One(power) => Walk::Slice(slice::from_ref(power)),
@@ -98,7 +98,7 @@ impl Store {
     // Reports whether both stores have the same names, and each exponent is that of the other store as the factor uses
     // it.
     pub(crate) fn matches(&self, other: &Store, factor: Factor) -> bool
-        ensures { result ≡ matches (exponent_in factor) (powers_of self.now) (powers_of other.now) }
+        ensures { result ≡ powers_match (exponent_in factor) (stored_powers self.now) (stored_powers other.now) }
     {
         if let Some(left) = self.list() {
             if let Some(right) = other.list() {
@@ -110,8 +110,8 @@ impl Store {
 
     // Returns copies of the powers as the factor uses them.
     pub(crate) fn copy_powers(&self, alloc: Global, factor: Factor) -> Result<Store, AllocError>
-        ensures { IfOk result (λ store. powers_of store
-            ≡ map (power_by (exponent_in factor)) (powers_of self.now)) }
+        ensures { IfOk result (λ store. stored_powers store
+            ≡ map (unit_power_by (exponent_in factor)) (stored_powers self.now)) }
     {
         Ok(match self {
             Store::One(power) => {
@@ -129,10 +129,10 @@ impl Store {
         other: &Store,
         factor: Factor,
     ) -> Result<Store, ExponentFault>
-        requires left { AreInOrder (powers_of self) }
-        requires right { AreInOrder (powers_of other.now) }
-        ensures { ArePowers powers_of result
-            (merge_of (exponent_in factor) (powers_of self) (powers_of other.now)) }
+        requires left { ArePowersInOrder (stored_powers self) }
+        requires right { ArePowersInOrder (stored_powers other.now) }
+        ensures { ArePowers stored_powers result
+            (merge_of_powers (exponent_in factor) (stored_powers self) (stored_powers other.now)) }
     {
         if other.is_empty() {
             return Ok(self);
@@ -152,8 +152,8 @@ impl Store {
 
     // Returns the powers with each exponent multiplied by the exponent of a power, without those that become 0.
     pub(crate) fn scale_powers(self, alloc: Global, degree: &Degree) -> Result<Store, ExponentFault>
-        requires { All IsPower (powers_of self) }
-        ensures { ArePowers powers_of result (scaled_powers degree.now (powers_of self)) }
+        requires { All IsUnitPower (stored_powers self) }
+        ensures { ArePowers stored_powers result (scaled_powers degree.now (stored_powers self)) }
     {
         let items = match self {
             Store::One(power) => {
@@ -170,7 +170,7 @@ impl Store {
 
     // Appends the names to a text: those with positive exponents and, after a slash, those with negative ones.
     pub(crate) fn put_text(&self, alloc: Global, text: &mut Vec<u8>) -> Result<(), AllocError>
-        ensures { OnOk result (text.new.items ≡ text.old.items ++ listed_text (powers_of self.now)) }
+        ensures { OnOk result (text.new.items ≡ text.old.items ++ listed_powers_text (stored_powers self.now)) }
     {
         match self {
             Store::One(power) => put_powers(alloc, text, slice::from_ref(power)),
@@ -189,7 +189,7 @@ fn list_powers(
     tree: &BTreeMap<Name, Exponent>,
     factor: Factor,
 ) -> Result<Vec<Power>, AllocError>
-    ensures { IfOk result (λ items. items.items ≡ map (power_by (exponent_in factor)) tree.now.entries) }
+    ensures { IfOk result (λ items. items.items ≡ map (unit_power_by (exponent_in factor)) tree.now.entries) }
 {
     let mut items = Vec::with_capacity(alloc, tree.len())?;
     for (name, exponent) in tree {
@@ -205,9 +205,10 @@ fn merge_one(
     other: &Store,
     factor: Factor,
 ) -> Result<Store, ExponentFault>
-    requires left { AreInOrder (left ∷ []) }
-    requires right { AreInOrder (powers_of other.now) }
-    ensures { ArePowers powers_of result (merge_of (exponent_in factor) (left ∷ []) (powers_of other.now)) }
+    requires left { ArePowersInOrder (left ∷ []) }
+    requires right { ArePowersInOrder (stored_powers other.now) }
+    ensures { ArePowers stored_powers result
+        (merge_of_powers (exponent_in factor) (left ∷ []) (stored_powers other.now)) }
 {
     reduced_law();
     if let Store::One(right) = other {
@@ -228,9 +229,10 @@ fn merge_list(
     other: &Store,
     factor: Factor,
 ) -> Result<Store, ExponentFault>
-    requires left { AreInOrder left.items }
-    requires right { AreInOrder (powers_of other.now) }
-    ensures { ArePowers powers_of result (merge_of (exponent_in factor) left.items (powers_of other.now)) }
+    requires left { ArePowersInOrder left.items }
+    requires right { ArePowersInOrder (stored_powers other.now) }
+    ensures { ArePowers stored_powers result
+        (merge_of_powers (exponent_in factor) left.items (stored_powers other.now)) }
 {
     if let Some(right) = other.list() {
         if left.len() <= MOST_MERGED && right.len() <= MOST_MERGED {
@@ -245,7 +247,7 @@ fn merge_list(
 
 // Creates a tree from copies of these powers. Fails only if memory runs out.
 fn plant_tree(alloc: Global, powers: &[Power]) -> Result<BTreeMap<Name, Exponent>, ExponentFault>
-    requires { AreInOrder powers.now }
+    requires { ArePowersInOrder powers.now }
     ensures { ArePowers (λ tree. tree.entries) result powers.now }
 {
     join_all(

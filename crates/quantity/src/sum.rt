@@ -1,7 +1,7 @@
 //! Sums and differences.
 
-ghost use Rattle.quantity.specs.Answers.{IsAnswer};
-ghost use Rattle.quantity.specs.Sums.{difference_of, of_conforming, sum_of};
+ghost use Rattle.quantity.specs.Answers.{IsQuantityAnswer};
+ghost use Rattle.quantity.specs.Sums.{conforming_quantity_step, quantity_difference, quantity_sum};
 
 use crate::fault::QuantityFault;
 use crate::quantity::Quantity;
@@ -12,7 +12,7 @@ impl Quantity {
     /// Returns the sum. The error is `NotConformable` with both quantities if their exponents differ, and otherwise
     /// `Number` if the sum of the numbers overflows.
     pub fn add(&self, alloc: Global, other: &Quantity) -> Result<Quantity, QuantityFault>
-        ensures { IsAnswer result (sum_of self.now other.now) }
+        ensures { IsQuantityAnswer result (quantity_sum self.now other.now) }
     {
         self.copy(alloc)?.plus(alloc, other)
     }
@@ -20,14 +20,14 @@ impl Quantity {
     /// Returns the difference. The error is `NotConformable` with both quantities if their exponents differ, and
     /// otherwise `Number` if the difference of the numbers overflows.
     pub fn sub(&self, alloc: Global, other: &Quantity) -> Result<Quantity, QuantityFault>
-        ensures { IsAnswer result (difference_of self.now other.now) }
+        ensures { IsQuantityAnswer result (quantity_difference self.now other.now) }
     {
         self.copy(alloc)?.minus(alloc, other)
     }
 
     /// Same as `add`, but takes ownership of the quantity and copies nothing of it.
     pub fn plus(self, alloc: Global, other: &Quantity) -> Result<Quantity, QuantityFault>
-        ensures { IsAnswer result (sum_of self other.now) }
+        ensures { IsQuantityAnswer result (quantity_sum self other.now) }
     {
         let sum = self.value.add(&other.value);
         self.with_number(alloc, other, sum)
@@ -35,7 +35,7 @@ impl Quantity {
 
     /// Same as `sub`, but takes ownership of the quantity and copies nothing of it.
     pub fn minus(self, alloc: Global, other: &Quantity) -> Result<Quantity, QuantityFault>
-        ensures { IsAnswer result (difference_of self other.now) }
+        ensures { IsQuantityAnswer result (quantity_difference self other.now) }
     {
         let difference = self.value.sub(&other.value);
         self.with_number(alloc, other, difference)
@@ -48,7 +48,7 @@ impl Quantity {
         other: &Quantity,
         number: Result<Frac, FracFault>,
     ) -> Result<Quantity, QuantityFault>
-        ensures { IsAnswer result (of_conforming number self other.now) }
+        ensures { IsQuantityAnswer result (conforming_quantity_step number self other.now) }
     {
         if !self.conforms(other) {
             let other = other.copy(alloc)?;

@@ -2,7 +2,7 @@
 
 ghost use Rattle.std.specs.Prelude.{◌≡◌, ◌++◌, OnOk, unsigned_abs};
 ghost use Rattle.std.specs.List.{filter, flat_map, list_any};
-ghost use Rattle.quantity.specs.Text.{exponent_text, is_on_side, listed_text, power_text};
+ghost use Rattle.quantity.specs.Text.{exponent_text, is_power_on_side, listed_powers_text, unit_power_text};
 
 use crate::exponent::Exponent;
 use crate::power::Power;
@@ -18,7 +18,7 @@ enum Side {
 impl Side {
     // Reports whether a power is written on this side.
     fn has(self, power: &Power) -> bool
-        ensures { result ≡ is_on_side self power.now }
+        ensures { result ≡ is_power_on_side self power.now }
     {
         match self {
             Side::Above => power.exponent().num > 0,
@@ -33,7 +33,7 @@ pub(crate) fn put_powers(
     text: &mut Vec<u8>,
     powers: &[Power],
 ) -> Result<(), AllocError>
-    ensures { OnOk result (text.new.items ≡ text.old.items ++ listed_text powers.now) }
+    ensures { OnOk result (text.new.items ≡ text.old.items ++ listed_powers_text powers.now) }
 {
     put_part(alloc, text, powers, Side::Above)?;
     if has_part(powers, Side::Below) {
@@ -45,7 +45,7 @@ pub(crate) fn put_powers(
 
 // Reports whether any power is written on this side.
 fn has_part(powers: &[Power], side: Side) -> bool
-    ensures { result ≡ list_any (is_on_side side) powers.now }
+    ensures { result ≡ list_any (is_power_on_side side) powers.now }
 {
     powers.iter().any(|power| side.has(power))
 }
@@ -58,7 +58,7 @@ fn put_part(
     side: Side,
 ) -> Result<(), AllocError>
     ensures { OnOk result (text.new.items
-        ≡ text.old.items ++ flat_map power_text (filter (is_on_side side) powers.now)) }
+        ≡ text.old.items ++ flat_map unit_power_text (filter (is_power_on_side side) powers.now)) }
 {
     for power in powers {
         if side.has(power) {
@@ -70,7 +70,7 @@ fn put_part(
 
 // Appends a space, a name and the magnitude of its exponent to a text.
 fn put_power(alloc: Global, text: &mut Vec<u8>, power: &Power) -> Result<(), AllocError>
-    ensures { OnOk result (text.new.items ≡ text.old.items ++ power_text power.now) }
+    ensures { OnOk result (text.new.items ≡ text.old.items ++ unit_power_text power.now) }
 {
     text.push(b' ')?;
     text.extend_from_slice(power.name().as_bytes())?;

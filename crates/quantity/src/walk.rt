@@ -1,6 +1,6 @@
 //! Iteration over powers.
 
-ghost use Rattle.quantity.specs.Stores.{TakesFirst, rest_of};
+ghost use Rattle.quantity.specs.Stores.{TakesFirstPower, remaining_powers};
 
 use crate::exponent::Exponent;
 use crate::name::Name;
@@ -25,7 +25,7 @@ impl<'a> Walk<'a> {
     // Removes and returns the first of the remaining powers.
     #[inline]
     pub(crate) fn next(&mut self) -> Option<Entry<'a>>
-        ensures { TakesFirst (rest_of self.old) result (rest_of self.new) }
+        ensures { TakesFirstPower (remaining_powers self.old) result (remaining_powers self.new) }
     {
         match self {
             Walk::Slice(powers) => {

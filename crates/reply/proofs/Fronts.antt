@@ -9,6 +9,6 @@ with_front xs (Ok ys) = Ok (xs ++ ys)
 with_front xs (Err fault) = Err fault
 
 -- no items leave a result unchanged
-pub with_front-none : {A : Type 0} (r : Result (List A) ReplyFault) → with_front [] r ≡ r
-with_front-none (Ok ys) = refl
-with_front-none (Err fault) = refl
+pub inquiry_front-none : {A : Type 0} (r : Result (List A) ReplyFault) → with_front [] r ≡ r
+inquiry_front-none (Ok ys) = refl
+inquiry_front-none (Err fault) = refl

@@ -7,18 +7,18 @@ use Rattle.expr_tree.specs.ParseResult.{parse_of}
 use Rattle.expr_tree.specs.Syntax.{Syntax}
 use Rattle.expr_tree.specs.Words.{words_in}
 use Rattle.quantity.specs.Amount.{Amount}
-use Rattle.def_entry.specs.Tables.{Table}
-use Rattle.tree_eval.specs.Steps.{Worth}
+use Rattle.def_entry.specs.Tables.{EntryTable}
+use Rattle.tree_eval.specs.Steps.{ValueOrFault}
 use Rattle.tree_eval.specs.Value.{value}
 use Rattle.table_names.specs.declared.fault.NameFault.{NameFault}
 use Rattle.table_names.specs.Faults.{name_fault}
 use Rattle.table_names.specs.Meanings.{expansion}
-use Rattle.live_table.specs.Answers.{by_names}
+use Rattle.live_table.specs.Answers.{live_answer_of_worth}
 use Rattle.reply.specs.declared.fault.ReplyFault.{ReplyFault}
-use Rattle.reply.specs.Inquiries.{◌>>=◌, Inquiry, as_answer, inquiry_after, text_worth, tree_value, without_queries}
-use Rattle.reply.specs.Inquiries.{worths}
-use Rattle.reply.specs.TextValues.{AreValuesOf, IsValueOf}
-use Rattle.reply.specs.Trees.{as_parsed, tree_in, trees_in}
+use Rattle.reply.specs.Inquiries.{◌>>=◌, Inquiry, inquiry_after, inquiry_answer, inquiry_without_queries, text_worth}
+use Rattle.reply.specs.Inquiries.{tree_value, worths}
+use Rattle.reply.specs.TextValues.{AreInquiredValuesOf, IsInquiredValueOf}
+use Rattle.reply.specs.Trees.{inquiry_parse_result, inquiry_tree, inquiry_trees}
 use Rattle.general_lemmas.proofs.Results.{same_Ok, err-ok}
 
 -- ---- one step after another
@@ -50,14 +50,14 @@ module _ {A B : Type 0} (first : Inquiry A) (next : A → Inquiry B) (y : B) whe
   join-answers x e h = ap (answer_after first next) e ∙ h
 
 -- ---- the value of a text
-module _ (table : Table) (text : List ℕ) (x : Amount) where
+module _ (table : EntryTable) (text : List ℕ) (x : Amount) where
   abbrev answer_for : Result Syntax ParseFault → Result Amount ReplyFault
-  answer_for tree = (inquiry_after [] (as_parsed tree) (tree_value table)).answer
+  answer_for tree = (inquiry_after [] (inquiry_parse_result tree) (tree_value table)).answer
 
   by-tree : (tree : Syntax) → parse_of None text ≡ Ok tree
       → (fault : Option NameFault) → name_fault table (words_in tree) ≡ fault
-      → (result : Worth) → value (expansion table tree) None ≡ result
-      → as_answer (by_names fault result) ≡ Ok x → IsValueOf table text x
+      → (result : ValueOrFault) → value (expansion table tree) None ≡ result
+      → inquiry_answer (live_answer_of_worth fault result) ≡ Ok x → IsInquiredValueOf table text x
   by-tree tree parses None names (Ok q) evaluates h = record {
     tree = tree;
     parses = parses;
@@ -67,60 +67,63 @@ module _ (table : Table) (text : List ℕ) (x : Amount) where
   by-tree tree parses None names (Err fault) evaluates h = absurd (err-ok _ x h)
   by-tree tree parses (Some fault) names result evaluates h = absurd (err-ok _ x h)
 
-  pub value-of : (text_worth table text).answer ≡ Ok x → IsValueOf table text x
+  pub value-of : (text_worth table text).answer ≡ Ok x → IsInquiredValueOf table text x
   value-of h = go (parse_of None text) refl h
     where
-      go : (p : Result Syntax ParseFault) → parse_of None text ≡ p → answer_for p ≡ Ok x → IsValueOf table text x
+      go : (p : Result Syntax ParseFault) → parse_of None text ≡ p → answer_for p ≡ Ok x
+          → IsInquiredValueOf table text x
       go (Ok tree) parses h =
           by-tree tree parses (name_fault table (words_in tree)) refl (value (expansion table tree) None) refl h
       go (Err fault) parses h = absurd (err-ok _ x h)
 
-  pub of-tree : (v : IsValueOf table text x) → (tree_value table v.tree).answer ≡ Ok x
-  of-tree v = ap₂ (λ fault result. as_answer (by_names fault result)) v.names v.evaluates
+  pub of-tree : (v : IsInquiredValueOf table text x) → (tree_value table v.tree).answer ≡ Ok x
+  of-tree v = ap₂ (λ fault result. inquiry_answer (live_answer_of_worth fault result)) v.names v.evaluates
 
-  pub of-value : IsValueOf table text x → (text_worth table text).answer ≡ Ok x
+  pub of-value : IsInquiredValueOf table text x → (text_worth table text).answer ≡ Ok x
   of-value v = ap answer_for v.parses ∙ of-tree v
 
 -- a text has one value
-pub one-value : (table : Table) (text : List ℕ) (x y : Amount) → IsValueOf table text x → IsValueOf table text y
+pub inquired-value-is-unique : (table : EntryTable) (text : List ℕ) (x y : Amount) → IsInquiredValueOf table text x
+    → IsInquiredValueOf table text y
     → x ≡ y
-one-value table text x y v w = same_Ok x y (sym (of-value table text x v) ∙ of-value table text y w)
+inquired-value-is-unique table text x y v w = same_Ok x y (sym (of-value table text x v) ∙ of-value table text y w)
 
 -- ---- the values of texts
-module _ (table : Table) where
+module _ (table : EntryTable) where
   abbrev onto : Amount → List Amount → Inquiry (List Amount)
-  onto x xs = without_queries (Ok (x ∷ xs))
+  onto x xs = inquiry_without_queries (Ok (x ∷ xs))
 
-  pub values-of : (texts : List (List ℕ)) (trees : List Syntax) (units : List Amount) → trees_in texts ≡ Ok trees
-      → (worths table trees).answer ≡ Ok units → AreValuesOf table texts units
+  pub values-of : (texts : List (List ℕ)) (trees : List Syntax) (units : List Amount) → inquiry_trees texts ≡ Ok trees
+      → (worths table trees).answer ≡ Ok units → AreInquiredValuesOf table texts units
   values-of [] trees units e h =
       let none : [] ≡ trees = same_Ok [] trees e in
       let nothing : [] ≡ units =
       same_Ok [] units (ap (λ ts. (worths table ts).answer) none ∙ h) in
-      subst (AreValuesOf table []) nothing tt
+      subst (AreInquiredValuesOf table []) nothing tt
   values-of (text ∷ texts) trees units e h =
-      let read = split-steps (tree_in text) (λ tree. bound (trees_in texts) (λ ts. Ok (tree ∷ ts))) trees e in
-      let rest = split-steps (trees_in texts) (λ ts. Ok (read.0 ∷ ts)) trees read.2 in
+      let read = split-steps (inquiry_tree text) (λ tree. bound (inquiry_trees texts) (λ ts. Ok (tree ∷ ts))) trees e in
+      let rest = split-steps (inquiry_trees texts) (λ ts. Ok (read.0 ∷ ts)) trees read.2 in
       let is : read.0 ∷ rest.0 ≡ trees = same_Ok (read.0 ∷ rest.0) trees rest.2 in
       let first = split-answers (tree_value table read.0) (λ x. worths table rest.0 >>= onto x) units
       (ap (λ ts. (worths table ts).answer) is ∙ h) in
       let further = split-answers (worths table rest.0) (onto first.0) units first.2 in
-      subst (AreValuesOf table (text ∷ texts)) {x = first.0 ∷ further.0}
+      subst (AreInquiredValuesOf table (text ∷ texts)) {x = first.0 ∷ further.0}
       (same_Ok (first.0 ∷ further.0) units further.2) (
         value-of table text first.0
-            (join-answers (without_queries (tree_in text)) (tree_value table) first.0 read.0 read.1 first.1),
+            (join-answers (inquiry_without_queries (inquiry_tree text)) (tree_value table) first.0 read.0 read.1
+            first.1),
         values-of texts rest.0 further.0 rest.1 further.1,
       )
 
-  pub of-values : (texts : List (List ℕ)) (units : List Amount) → AreValuesOf table texts units
-      → (trees : List Syntax) × (trees_in texts ≡ Ok trees) × ((worths table trees).answer ≡ Ok units)
+  pub of-values : (texts : List (List ℕ)) (units : List Amount) → AreInquiredValuesOf table texts units
+      → (trees : List Syntax) × (inquiry_trees texts ≡ Ok trees) × ((worths table trees).answer ≡ Ok units)
   of-values [] [] h = ([], refl, refl)
   of-values [] (x ∷ units) h = absurd h
   of-values (text ∷ texts) [] h = absurd h
   of-values (text ∷ texts) (x ∷ units) h =
       let rest = of-values texts units h.1 in (
         h.0.tree ∷ rest.0,
-        ap₂ (λ p q. bound (as_parsed p) (λ tree. bound q (λ ts. Ok (tree ∷ ts)))) h.0.parses rest.1,
+        ap₂ (λ p q. bound (inquiry_parse_result p) (λ tree. bound q (λ ts. Ok (tree ∷ ts)))) h.0.parses rest.1,
         join-answers (tree_value table h.0.tree) (λ x. worths table rest.0 >>= onto x) (x ∷ units) x
             (of-tree table text x h.0)
             (join-answers (worths table rest.0) (onto x) (x ∷ units) units rest.2 refl),

@@ -6,15 +6,16 @@ use Rattle.std.proofs.lemmas.List.Elements.{All-from_recursion, recursion_from_A
 use Rattle.std.specs.List.{AllByRecursion as Each, position, position_from}
 use Rattle.frac128.specs.declared.fault.FracFault.{FracFault}
 use Rattle.frac128.specs.Fraction.{Fraction}
-use Rattle.frac128.specs.Sign.{is_positive}
-use Rattle.quantity.specs.Amount.{Amount, conform}
+use Rattle.frac128.specs.Sign.{is_positive_fraction}
+use Rattle.quantity.specs.Amount.{Amount, exponents_conform}
 use Rattle.unit_list.specs.declared.fault.SplitFault.{SplitFault}
 use Rattle.unit_list.specs.declared.fault.SplitFault.TheVariants as split
-use Rattle.unit_list.specs.Amounts.{counts_in, fault_or_counts, is_not_positive, is_unlike, numbers_of, place_fault}
-use Rattle.unit_list.specs.Splits.{number_counts}
+use Rattle.unit_list.specs.Amounts.{is_unit_not_positive, is_unlike_unit, numbers_of_units, unit_counts_in}
+use Rattle.unit_list.specs.Amounts.{unit_fault_or_counts, unit_place_fault}
+use Rattle.unit_list.specs.Splits.{unit_counts_of_number}
 use Rattle.reply.specs.declared.conversion.Conversion.{Conversion}
 use Rattle.reply.specs.declared.conversion.Conversion.TheVariants.{Split}
-use Rattle.reply.specs.Conversions.{is_granted, split_conversion}
+use Rattle.reply.specs.Conversions.{is_conversion_granted, split_conversion}
 use Rattle.general_lemmas.proofs.Results.{same_Ok, err-ok}
 
 -- ---- no element passes a test if none has the first place
@@ -62,35 +63,37 @@ module _ {A : Type 0} (test : A → Bool) where
 -- ---- the counts of units
 module _ (round : Bool) (x : Amount) (units : List Amount) where
   pub record HasCounts (counts : List Fraction) : Type 0 where
-    pub conformable : All (λ unit. conform x.exponents unit.exponents ≡ true) units
-    pub positive : All (λ unit. is_positive unit.value ≡ true) units
-    pub counted : number_counts round x.value (numbers_of units) ≡ Ok counts
+    pub conformable : All (λ unit. exponents_conform x.exponents unit.exponents ≡ true) units
+    pub positive : All (λ unit. is_positive_fraction unit.value ≡ true) units
+    pub counted : unit_counts_of_number round x.value (numbers_of_units units) ≡ Ok counts
 
-  counts-of : (counts : List Fraction) → counts_in round x units ≡ Ok counts → HasCounts counts
-  unfolding counts_in
+  counts-of : (counts : List Fraction) → unit_counts_in round x units ≡ Ok counts → HasCounts counts
+  unfolding unit_counts_in
   counts-of counts h =
-      go (position (is_unlike x) units) refl (position is_not_positive units) refl
-      (number_counts round x.value (numbers_of units)) refl h
+      go (position (is_unlike_unit x) units) refl (position is_unit_not_positive units) refl
+      (unit_counts_of_number round x.value (numbers_of_units units)) refl h
     where
-      go : (p : Option ℕ) → position (is_unlike x) units ≡ p → (q : Option ℕ) → position is_not_positive units ≡ q
-          → (r : Result (List Fraction) FracFault) → number_counts round x.value (numbers_of units) ≡ r
-          → fault_or_counts (place_fault p q) r ≡ Ok counts → HasCounts counts
+      go : (p : Option ℕ) → position (is_unlike_unit x) units ≡ p → (q : Option ℕ)
+          → position is_unit_not_positive units ≡ q
+          → (r : Result (List Fraction) FracFault) → unit_counts_of_number round x.value (numbers_of_units units) ≡ r
+          → unit_fault_or_counts (unit_place_fault p q) r ≡ Ok counts → HasCounts counts
       go None a None b (Ok counted) e h = record {
-        conformable = all-pass (λ unit. conform x.exponents unit.exponents) units a;
-        positive = all-pass (λ unit. is_positive unit.value) units b;
+        conformable = all-pass (λ unit. exponents_conform x.exponents unit.exponents) units a;
+        positive = all-pass (λ unit. is_positive_fraction unit.value) units b;
         counted = e ∙ ap Ok (same_Ok counted counts h);
       }
       go None a None b (Err fault) e h = absurd (err-ok _ counts h)
       go None a (Some k) b r e h = absurd (err-ok _ counts h)
       go (Some k) a q b r e h = absurd (err-ok _ counts h)
 
-  pub of-counts : (counts : List Fraction) → HasCounts counts → counts_in round x units ≡ Ok counts
-  unfolding counts_in
+  pub of-counts : (counts : List Fraction) → HasCounts counts → unit_counts_in round x units ≡ Ok counts
+  unfolding unit_counts_in
   of-counts counts h =
-      ap₂ (λ p q. fault_or_counts (place_fault p q) (number_counts round x.value (numbers_of units)))
-      (none-fails (λ unit. conform x.exponents unit.exponents) units h.conformable)
-      (none-fails (λ unit. is_positive unit.value) units h.positive)
-      ∙ ap (fault_or_counts None) h.counted
+      ap₂ (λ p q. unit_fault_or_counts (unit_place_fault p q)
+      (unit_counts_of_number round x.value (numbers_of_units units)))
+      (none-fails (λ unit. exponents_conform x.exponents unit.exponents) units h.conformable)
+      (none-fails (λ unit. is_positive_fraction unit.value) units h.positive)
+      ∙ ap (unit_fault_or_counts None) h.counted
 
   module _ (list : List ℕ) (c : Conversion) where
     -- the conversion has counts of the units
@@ -99,15 +102,16 @@ module _ (round : Bool) (x : Amount) (units : List Amount) where
       pub has : HasCounts counts
       pub same : Split list counts ≡ c
 
-    pub split-of : split_conversion x list units (counts_in round x units) ≡ Ok c → is_granted c ≡ true → IsCounts
-    split-of h g = go (counts_in round x units) refl h
+    pub split-of : split_conversion x list units (unit_counts_in round x units) ≡ Ok c → is_conversion_granted c ≡ true
+        → IsCounts
+    split-of h g = go (unit_counts_in round x units) refl h
       where
-        go : (r : Result (List Fraction) SplitFault) → counts_in round x units ≡ r
+        go : (r : Result (List Fraction) SplitFault) → unit_counts_in round x units ≡ r
             → split_conversion x list units r ≡ Ok c → IsCounts
         go (Ok counts) e h =
             record { counts = counts; has = counts-of counts e; same = same_Ok (Split list counts) c h }
         go (Err (split.NotConformable place)) e h =
-            absurd (true≢false (sym (ap is_granted (same_Ok _ c h) ∙ g)))
+            absurd (true≢false (sym (ap is_conversion_granted (same_Ok _ c h) ∙ g)))
         go (Err (split.ListUnitNotPositive place)) e h = absurd (err-ok _ c h)
         go (Err (split.Number fault)) e h = absurd (err-ok _ c h)
         go (Err split.OutOfMemory) e h = absurd (err-ok _ c h)

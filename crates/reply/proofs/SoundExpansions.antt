@@ -7,55 +7,60 @@ use Rattle.expr_tree.specs.Syntax.{Syntax, Members, NoMember, Member, Factors, N
 use Rattle.def_entry.specs.declared.key.Key.{Key}
 use Rattle.def_entry.specs.Entries as what
 use Rattle.def_entry.specs.Entries.{Entry, What}
-use Rattle.def_entry.specs.Tables.{Table, entry_at}
-use Rattle.tree_eval.specs.Entries.{alias, meaning_of}
-use Rattle.tree_eval.specs.Expansions.{Callee, Expanded, Meaning, One, Two}
-use Rattle.tree_eval.specs.Expansion.{call_expansion, called_word, expand, expand_if, factor_links, inverse_expansion}
-use Rattle.tree_eval.specs.Expansion.{inverted_word}
-use Rattle.tree_eval.specs.Expansion.{expanded_meaning, member_links, plain_word, term_links}
-use Rattle.table_names.specs.Leads.{targets}
+use Rattle.def_entry.specs.Tables.{EntryTable, entry_at}
+use Rattle.tree_eval.specs.Entries.{evaluated_alias, evaluated_meaning}
+use Rattle.tree_eval.specs.Expansions.{Callee, EvalMeaning, Expanded, One, Two}
+use Rattle.tree_eval.specs.Expansion.{called_eval_word, expand, expand_if, factor_links, operand_call_expansion}
+use Rattle.tree_eval.specs.Expansion.{operand_inverse_expansion, inverted_eval_word, eval_meaning_expansion}
+use Rattle.tree_eval.specs.Expansion.{member_links, plain_eval_word, term_links}
+use Rattle.table_names.specs.Leads.{table_word_targets}
 use Rattle.table_names.specs.Meanings.{entry_meaning, expansion, meaning_within, targets_meaning, word_meaning_by}
 use Rattle.reply.proofs.PositivePoints.{HasTablePoints}
 use Rattle.reply.proofs.PositiveValues.{AreSound, IsSound, IsSoundCall, IsSoundIf}
 
-abbrev IsSoundMeaning : Meaning → Type 0
+abbrev IsSoundMeaning : EvalMeaning → Type 0
 IsSoundMeaning (One x) = IsSound x
 IsSoundMeaning (Two x y) = IsSound x × IsSound y
 IsSoundMeaning (Callee f) = IsSoundCall f
 
 -- ---- words
-sound-plain : (m : Meaning) → IsSoundMeaning m → IsSound (expanded_meaning m)
-sound-plain (One x) h = h
-sound-plain (Two x y) h = h
-sound-plain (Callee f) h = h
+sound-reply-plain-expansion : (m : EvalMeaning) → IsSoundMeaning m → IsSound (eval_meaning_expansion m)
+sound-reply-plain-expansion (One x) h = h
+sound-reply-plain-expansion (Two x y) h = h
+sound-reply-plain-expansion (Callee f) h = h
 
-sound-called : (m : Meaning) (y : Expanded) → IsSoundMeaning m → IsSound y → IsSound (call_expansion m y)
-sound-called (Callee f) y h k = (h, k)
-sound-called (One x) y h k = (h, (k, tt))
-sound-called (Two x z) y h k = (h, (k, tt))
+sound-reply-call-expansion : (m : EvalMeaning) (y : Expanded) → IsSoundMeaning m → IsSound y
+    → IsSound (operand_call_expansion m y)
+sound-reply-call-expansion (Callee f) y h k = (h, k)
+sound-reply-call-expansion (One x) y h k = (h, (k, tt))
+sound-reply-call-expansion (Two x z) y h k = (h, (k, tt))
 
-sound-inverted : (m : Meaning) (y : Expanded) → IsSoundMeaning m → IsSound y → IsSound (inverse_expansion m y)
-sound-inverted (Callee f) y h k = (h, k)
-sound-inverted (One x) y h k = (h, (k, tt))
-sound-inverted (Two x z) y h k = (h, (k, tt))
+sound-reply-inverse-expansion : (m : EvalMeaning) (y : Expanded) → IsSoundMeaning m → IsSound y
+    → IsSound (operand_inverse_expansion m y)
+sound-reply-inverse-expansion (Callee f) y h k = (h, k)
+sound-reply-inverse-expansion (One x) y h k = (h, (k, tt))
+sound-reply-inverse-expansion (Two x z) y h k = (h, (k, tt))
 
-sound-alias : (name : List ℕ) (m : Meaning) → IsSoundMeaning m → IsSoundMeaning (alias name m)
-sound-alias name (Callee f) h = h
-sound-alias name (One x) h = h
-sound-alias name (Two x y) h = h
+sound-reply-alias-meaning : (name : List ℕ) (m : EvalMeaning) → IsSoundMeaning m
+    → IsSoundMeaning (evaluated_alias name m)
+sound-reply-alias-meaning name (Callee f) h = h
+sound-reply-alias-meaning name (One x) h = h
+sound-reply-alias-meaning name (Two x y) h = h
 
 -- ---- trees
-module _ (means : WordUse → Meaning) (sound : (u : WordUse) → IsSoundMeaning (means u)) where
+module _ (means : WordUse → EvalMeaning) (sound : (u : WordUse) → IsSoundMeaning (means u)) where
   mutual
     pub sound-tree : (e : Syntax) → IsSound (expand means e)
     sound-tree (tree.Number x) = tt
     sound-tree (tree.Bar x y) = tt
-    sound-tree (tree.Word w) = sound-plain (means (plain_word w)) (sound (plain_word w))
+    sound-tree (tree.Word w) = sound-reply-plain-expansion (means (plain_eval_word w)) (sound (plain_eval_word w))
     sound-tree tree.Argument = tt
     sound-tree (tree.Call w e) =
-        sound-called (means (called_word w)) (expand means e) (sound (called_word w)) (sound-tree e)
+        sound-reply-call-expansion (means (called_eval_word w)) (expand means e) (sound (called_eval_word w))
+        (sound-tree e)
     sound-tree (tree.Inverse w e) =
-        sound-inverted (means (inverted_word w)) (expand means e) (sound (inverted_word w)) (sound-tree e)
+        sound-reply-inverse-expansion (means (inverted_eval_word w)) (expand means e) (sound (inverted_eval_word w))
+        (sound-tree e)
     sound-tree (tree.Root kind e) = sound-tree e
     sound-tree (tree.Group e) = sound-tree e
     sound-tree (tree.Negate e) = sound-tree e
@@ -83,42 +88,43 @@ module _ (means : WordUse → Meaning) (sound : (u : WordUse) → IsSoundMeaning
   sound-if None = tt
   sound-if (Some e) = sound-tree e
 
-  sound-entry : (name : List ℕ) (w : What) → HasTablePoints w → IsSoundMeaning (meaning_of means name w)
+  sound-entry : (name : List ℕ) (w : What) → HasTablePoints w → IsSoundMeaning (evaluated_meaning means name w)
   sound-entry name what.Primitive h = tt
   sound-entry name what.Dimensionless h = tt
   sound-entry name (what.Body e) h = sound-tree e
   sound-entry name (what.Function d) h = (sound-tree d.forward, sound-if d.inverse)
   sound-entry name (what.Alias target) h =
-      sound-alias name (means (inverted_word target)) (sound (inverted_word target))
+      sound-reply-alias-meaning name (means (inverted_eval_word target)) (sound (inverted_eval_word target))
   sound-entry name (what.Table d) h = h
   sound-entry name (what.ListOf parts) h = tt
 
 -- ---- names
-sound-targets : (ms : List Meaning) → Each IsSoundMeaning ms → IsSoundMeaning (targets_meaning ms)
-sound-targets [] h = tt
-sound-targets (m ∷ []) h = h.0
-sound-targets (One x ∷ One y ∷ []) h = (h.0, h.1.0)
-sound-targets (One x ∷ One y ∷ m ∷ ms) h = tt
-sound-targets (One x ∷ Two y z ∷ ms) h = tt
-sound-targets (One x ∷ Callee f ∷ ms) h = tt
-sound-targets (Two x y ∷ m ∷ ms) h = tt
-sound-targets (Callee f ∷ m ∷ ms) h = tt
+sound-reply-targets-meaning : (ms : List EvalMeaning) → Each IsSoundMeaning ms → IsSoundMeaning (targets_meaning ms)
+sound-reply-targets-meaning [] h = tt
+sound-reply-targets-meaning (m ∷ []) h = h.0
+sound-reply-targets-meaning (One x ∷ One y ∷ []) h = (h.0, h.1.0)
+sound-reply-targets-meaning (One x ∷ One y ∷ m ∷ ms) h = tt
+sound-reply-targets-meaning (One x ∷ Two y z ∷ ms) h = tt
+sound-reply-targets-meaning (One x ∷ Callee f ∷ ms) h = tt
+sound-reply-targets-meaning (Two x y ∷ m ∷ ms) h = tt
+sound-reply-targets-meaning (Callee f ∷ m ∷ ms) h = tt
 
-sound-map : (of_key : Key → Meaning) → ((n : Key) → IsSoundMeaning (of_key n)) → (ns : List Key)
+sound-reply-meanings-of-keys : (of_key : Key → EvalMeaning) → ((n : Key) → IsSoundMeaning (of_key n)) → (ns : List Key)
     → Each IsSoundMeaning (map of_key ns)
-sound-map of_key h [] = tt
-sound-map of_key h (n ∷ ns) = (h n, sound-map of_key h ns)
+sound-reply-meanings-of-keys of_key h [] = tt
+sound-reply-meanings-of-keys of_key h (n ∷ ns) = (h n, sound-reply-meanings-of-keys of_key h ns)
 
 -- the points of all tables of a table of definitions
-abbrev pub HasPointsOf : Table → Type 0
+abbrev pub HasPointsOf : EntryTable → Type 0
 HasPointsOf table = (k : Key) (e : Entry) → entry_at table k ≡ Some e → HasTablePoints e.what
 
-module _ (table : Table) (points : HasPointsOf table) where
-  sound-word : (of_key : Key → Meaning) → ((n : Key) → IsSoundMeaning (of_key n)) → (u : WordUse)
+module _ (table : EntryTable) (points : HasPointsOf table) where
+  sound-word : (of_key : Key → EvalMeaning) → ((n : Key) → IsSoundMeaning (of_key n)) → (u : WordUse)
       → IsSoundMeaning (word_meaning_by table of_key u)
-  sound-word of_key h u = sound-targets (map of_key (targets table u)) (sound-map of_key h (targets table u))
+  sound-word of_key h u = sound-reply-targets-meaning (map of_key (table_word_targets table u))
+      (sound-reply-meanings-of-keys of_key h (table_word_targets table u))
 
-  sound-found : (of_key : Key → Meaning) → ((n : Key) → IsSoundMeaning (of_key n)) → (n : Key) (o : Option Entry)
+  sound-found : (of_key : Key → EvalMeaning) → ((n : Key) → IsSoundMeaning (of_key n)) → (n : Key) (o : Option Entry)
       → entry_at table n ≡ o → IsSoundMeaning (entry_meaning (word_meaning_by table of_key) n.name o)
   sound-found of_key h n None is = tt
   sound-found of_key h n (Some e) is =

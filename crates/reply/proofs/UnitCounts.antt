@@ -7,22 +7,23 @@ use Rattle.std.specs.Prelude.{Result, Ok, Err}
 use Rattle.units_io.specs.Outcomes.{◌>>=◌}
 use Rattle.expr_tree.specs.Syntax.{Syntax}
 use Rattle.quantity.specs.Amount.{Amount}
-use Rattle.def_entry.specs.EntryReading.{is_semicolon}
-use Rattle.def_entry.specs.Tables.{Table}
-use Rattle.def_lines.specs.Blanks.{trim_of}
+use Rattle.def_entry.specs.EntryReading.{is_entry_semicolon}
+use Rattle.def_entry.specs.Tables.{EntryTable}
+use Rattle.def_lines.specs.Blanks.{trimmed_of_blanks}
 use Rattle.reply.specs.declared.fault.ReplyFault.{ReplyFault}
-use Rattle.reply.specs.Inquiries.{inquiry_after, tree_value, without_queries, worths}
-use Rattle.reply.specs.Targets.{parts_of}
-use Rattle.reply.specs.Trees.{tree_in, trees_in}
+use Rattle.reply.specs.Inquiries.{inquiry_after, inquiry_without_queries, tree_value, worths}
+use Rattle.reply.specs.Targets.{conversion_target_parts}
+use Rattle.reply.specs.Trees.{inquiry_tree, inquiry_trees}
 
 -- there are as many trees as texts
-pub trees-count : (texts : List (List ℕ)) (trees : List Syntax) → trees_in texts ≡ Ok trees
+pub inquiry-trees-count : (texts : List (List ℕ)) (trees : List Syntax) → inquiry_trees texts ≡ Ok trees
     → length trees ≡ length texts
-trees-count [] trees e = let s : [] ≡ trees = cc in ap length (sym s)
-trees-count (text ∷ texts) trees e = go (trees-count texts) (tree_in text) (trees_in texts) refl e
+inquiry-trees-count [] trees e = let s : [] ≡ trees = cc in ap length (sym s)
+inquiry-trees-count (text ∷ texts) trees e = go (inquiry-trees-count texts) (inquiry_tree text) (inquiry_trees texts)
+    refl e
   where
-    go : ((xs : List Syntax) → trees_in texts ≡ Ok xs → length xs ≡ length texts)
-        → (p : Result Syntax ReplyFault) (q : Result (List Syntax) ReplyFault) → trees_in texts ≡ q
+    go : ((xs : List Syntax) → inquiry_trees texts ≡ Ok xs → length xs ≡ length texts)
+        → (p : Result Syntax ReplyFault) (q : Result (List Syntax) ReplyFault) → inquiry_trees texts ≡ q
         → (p >>= (λ tree. q >>= (λ trees. Ok (tree ∷ trees)))) ≡ Ok trees → length trees ≡ length (text ∷ texts)
     go few (Ok x) (Ok xs) is e =
         let s : x ∷ xs ≡ trees = cc in
@@ -32,15 +33,16 @@ trees-count (text ∷ texts) trees e = go (trees-count texts) (tree_in text) (tr
     go few (Err fault) q is e = cc
 
 -- there are as many values as trees
-pub worths-count : (t : Table) (trees : List Syntax) (xs : List Amount) → (worths t trees).answer ≡ Ok xs
+pub inquiry-worths-count : (t : EntryTable) (trees : List Syntax) (xs : List Amount) → (worths t trees).answer ≡ Ok xs
     → length xs ≡ length trees
-worths-count t [] xs e = let s : [] ≡ xs = cc in ap length (sym s)
-worths-count t (tree ∷ trees) xs e = go (worths-count t trees) (tree_value t tree).answer (worths t trees).answer refl e
+inquiry-worths-count t [] xs e = let s : [] ≡ xs = cc in ap length (sym s)
+inquiry-worths-count t (tree ∷ trees) xs e = go (inquiry-worths-count t trees) (tree_value t tree).answer
+    (worths t trees).answer refl e
   where
     go : ((ys : List Amount) → (worths t trees).answer ≡ Ok ys → length ys ≡ length trees)
         → (p : Result Amount ReplyFault) (q : Result (List Amount) ReplyFault) → (worths t trees).answer ≡ q
         → (inquiry_after (tree_value t tree).events p
-        (λ x. inquiry_after (worths t trees).events q (λ ys. without_queries (Ok (x ∷ ys))))).answer
+        (λ x. inquiry_after (worths t trees).events q (λ ys. inquiry_without_queries (Ok (x ∷ ys))))).answer
         ≡ Ok xs
         → length xs ≡ length (tree ∷ trees)
     go few (Ok x) (Ok ys) is e =
@@ -51,12 +53,23 @@ worths-count t (tree ∷ trees) xs e = go (worths-count t trees) (tree_value t t
     go few (Err fault) q is e = cc
 
 -- a list has at least one part
-parts-some : (list : List ℕ) → 0 < length (parts_of list)
-parts-some list =
-    omega (arith, length-map (slice_split is_semicolon list) trim_of, length-slice_split is_semicolon list)
+conversion-list-has-a-part : (list : List ℕ) → 0 < length (conversion_target_parts list)
+conversion-list-has-a-part list =
+    omega (
+      arith,
+      length-map (slice_split is_entry_semicolon list) trimmed_of_blanks,
+      length-slice_split
+          is_entry_semicolon list,
+    )
 
 -- a list has at least one unit
-pub units-some : (t : Table) (list : List ℕ) (trees : List Syntax) (units : List Amount)
-    → trees_in (parts_of list) ≡ Ok trees → (worths t trees).answer ≡ Ok units → 0 < length units
-units-some t list trees units e f =
-    omega (arith, parts-some list, trees-count (parts_of list) trees e, worths-count t trees units f)
+pub conversion-list-has-a-unit : (t : EntryTable) (list : List ℕ) (trees : List Syntax) (units : List Amount)
+    → inquiry_trees (conversion_target_parts list) ≡ Ok trees → (worths t trees).answer ≡ Ok units → 0 < length units
+conversion-list-has-a-unit t list trees units e f =
+    omega (
+      arith,
+      conversion-list-has-a-part list,
+      inquiry-trees-count (conversion_target_parts list) trees
+          e,
+      inquiry-worths-count t trees units f,
+    )

@@ -8,17 +8,22 @@ use Rattle.reply.specs.declared.form.Layout.TheVariants.{Plain, Compact, Verbose
 use Rattle.reply.specs.declared.options.Options.{Options}
 
 -- the digits are from 1 to 36
-pub record IsPrintable (options : Options) : Type 0 where
+pub record AreReplyOptionsPrintable (options : Options) : Type 0 where
   pub digits_least : 1 ≤ options.digits
   pub digits_most : options.digits ≤ 36
 
 -- the style of numbers: with `exact` the digits have no effect
-abbrev pub style_of : Options → Style
-style_of options = if options.exact then Exact else Digits options.digits
+abbrev pub reply_style : Options → Style
+reply_style options = if options.exact then Exact else Digits options.digits
 
 -- the layout of lines: `compact` overrides `verbose`
-abbrev pub layout_of : Options → Layout
-layout_of options = if options.compact then Compact else (if options.verbose then Verbose else Plain)
+abbrev pub layout_of_options : Options → Layout
+layout_of_options options = if options.compact then Compact else (if options.verbose then Verbose else Plain)
 
 abbrev pub reply_form : Options → Form
-reply_form options = record { layout = layout_of options; style = style_of options; one_line = options.one_line }
+reply_form options = record {
+  layout = layout_of_options options;
+  style = reply_style options;
+  one_line =
+      options.one_line;
+}

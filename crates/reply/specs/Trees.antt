@@ -7,18 +7,18 @@ use Rattle.expr_tree.specs.Syntax.{Syntax}
 use Rattle.reply.specs.declared.fault.ReplyFault.{ReplyFault}
 use Rattle.reply.specs.declared.fault.ReplyFault.TheVariants.{Parse}
 
-abbrev pub as_parsed : Result Syntax ParseFault → Result Syntax ReplyFault
-as_parsed (Ok tree) = Ok tree
-as_parsed (Err fault) = Err (Parse fault)
+abbrev pub inquiry_parse_result : Result Syntax ParseFault → Result Syntax ReplyFault
+inquiry_parse_result (Ok tree) = Ok tree
+inquiry_parse_result (Err fault) = Err (Parse fault)
 
 -- the tree of a text, which contains no argument
-abbrev pub tree_in : List ℕ → Result Syntax ReplyFault
-tree_in text = as_parsed (parse_of None text)
+abbrev pub inquiry_tree : List ℕ → Result Syntax ReplyFault
+inquiry_tree text = inquiry_parse_result (parse_of None text)
 
 -- the trees of texts, in order, or the first fault
-abbrev pub trees_in : List (List ℕ) → Result (List Syntax) ReplyFault
-trees_in [] = Ok []
-trees_in (text ∷ texts) = do
-  tree ← tree_in text
-  trees ← trees_in texts
+abbrev pub inquiry_trees : List (List ℕ) → Result (List Syntax) ReplyFault
+inquiry_trees [] = Ok []
+inquiry_trees (text ∷ texts) = do
+  tree ← inquiry_tree text
+  trees ← inquiry_trees texts
   Ok (tree ∷ trees)

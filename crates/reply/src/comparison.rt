@@ -1,7 +1,7 @@
 //! Conversions between quantities that are already known.
 
 ghost use Rattle.std.specs.Prelude.{◌<◌, length};
-ghost use Rattle.unit_list.specs.Amounts.{counts_in};
+ghost use Rattle.unit_list.specs.Amounts.{unit_counts_in};
 ghost use Rattle.reply.specs.Calls as call;
 ghost use Rattle.reply.specs.Conversions as spec;
 
@@ -22,7 +22,8 @@ pub(crate) fn compare_quantities(
     x: Quantity,
     y: &Quantity,
 ) -> Result<Conversion, Failure>
-    ensures { call.IsRead call.itself (spec.conversion_between strict x y.now) result }
+    ensures { call.IsInquiryWithoutQueriesAnswered call.inquiry_identity (spec.conversion_between strict x y.now)
+        result }
 {
     if x.conforms(y) {
         return Ok(Conversion::Linear(ratio_of(&x.value(), &y.value())?));
@@ -42,7 +43,8 @@ pub(crate) fn count_units(
     mut units: Vec<Quantity>,
 ) -> Result<Conversion, Failure>
     requires { 0 < length units.items }
-    ensures { call.IsRead call.itself (spec.split_conversion x list units.items (counts_in round x units.items)) result }
+    ensures { call.IsInquiryWithoutQueriesAnswered call.inquiry_identity
+        (spec.split_conversion x list units.items (unit_counts_in round x units.items)) result }
 {
     match split(alloc, &x, units.as_slice(), round) {
         Ok(split) => Ok(Conversion::Split(list, split.counts)),

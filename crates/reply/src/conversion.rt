@@ -4,7 +4,7 @@ ghost use Rattle.std.specs.Prelude.{◌≡◌, true};
 ghost use Rattle.deck.specs.Tables as tables;
 ghost use Rattle.def_entry.specs.declared.key.Kind.TheVariants as kinds;
 ghost use Rattle.def_entry.specs.Keys as keys;
-ghost use Rattle.def_entry.specs.Tables.{is_present};
+ghost use Rattle.def_entry.specs.Tables.{is_entry_present};
 ghost use Rattle.reply.specs.Calls as call;
 ghost use Rattle.reply.specs.Conversions as spec;
 ghost use Rattle.reply.specs.Targets as targets;
@@ -46,9 +46,9 @@ impl Question<'_> {
         steps: &mut Steps<L>,
     ) -> Result<Conversion, Failure>
         ensures deck { table.new.deck ≡ table.old.deck }
-        ensures inquired { call.IsInquired call.itself
-            (spec.conversion (tables.table table.old.deck) self.now.options.now self.now.from.now self.now.to.now)
-            result table.old table.new steps.old steps.new }
+        ensures inquired { call.IsInquiryAnswered call.inquiry_identity
+            (spec.conversion (tables.table_of_deck table.old.deck) self.now.options.now self.now.from.now
+            self.now.to.now) result table.old table.new steps.old steps.new }
     {
         let x = evaluate_text(alloc, table, self.from, steps)?;
         let target = target_of(alloc, table.deck(), self.to)?;
@@ -64,11 +64,11 @@ impl Question<'_> {
         x: Quantity,
         steps: &mut Steps<L>,
     ) -> Result<Conversion, Failure>
-        requires { target ≡ targets.conversion_target (tables.table table.old.deck) self.now.to.now }
+        requires { target ≡ targets.conversion_target (tables.table_of_deck table.old.deck) self.now.to.now }
         ensures deck { table.new.deck ≡ table.old.deck }
-        ensures inquired { call.IsInquired call.itself
-            (spec.converted_to (tables.table table.old.deck) self.now.options.now self.now.to.now target x) result
-            table.old table.new steps.old steps.new }
+        ensures inquired { call.IsInquiryAnswered call.inquiry_identity
+            (spec.converted_to (tables.table_of_deck table.old.deck) self.now.options.now self.now.to.now target x)
+            result table.old table.new steps.old steps.new }
     {
         match target {
             Target::Function => apply_inverse(alloc, table, self.to, x, steps),
@@ -86,9 +86,9 @@ impl Question<'_> {
         steps: &mut Steps<L>,
     ) -> Result<Conversion, Failure>
         ensures deck { table.new.deck ≡ table.old.deck }
-        ensures inquired { call.IsInquired call.itself
-            (spec.conversion_to_unit (tables.table table.old.deck) self.now.options.now self.now.to.now x) result
-            table.old table.new steps.old steps.new }
+        ensures inquired { call.IsInquiryAnswered call.inquiry_identity
+            (spec.conversion_to_unit (tables.table_of_deck table.old.deck) self.now.options.now self.now.to.now x)
+            result table.old table.new steps.old steps.new }
     {
         let y = evaluate_text(alloc, table, self.to, steps)?;
         compare_quantities(alloc, self.options.strict, x, &y)
@@ -104,8 +104,8 @@ impl Question<'_> {
         steps: &mut Steps<L>,
     ) -> Result<Conversion, Failure>
         ensures deck { table.new.deck ≡ table.old.deck }
-        ensures inquired { call.IsInquired call.itself
-            (spec.conversion_to_list (tables.table table.old.deck) self.now.options.now list x) result
+        ensures inquired { call.IsInquiryAnswered call.inquiry_identity
+            (spec.conversion_to_list (tables.table_of_deck table.old.deck) self.now.options.now list x) result
             table.old table.new steps.old steps.new }
     {
         // The cached outcomes are right even if nothing is queried.
@@ -124,10 +124,10 @@ fn apply_inverse<L: Ledger>(
     x: Quantity,
     steps: &mut Steps<L>,
 ) -> Result<Conversion, Failure>
-    requires there { is_present (tables.table table.old.deck) (keys.key kinds.Func name.now) ≡ true }
+    requires there { is_entry_present (tables.table_of_deck table.old.deck) (keys.key kinds.Func name.now) ≡ true }
     ensures deck { table.new.deck ≡ table.old.deck }
-    ensures inquired { call.IsInquired call.itself (spec.inverse_conversion (tables.table table.old.deck) name.now x)
-        result
+    ensures inquired { call.IsInquiryAnswered call.inquiry_identity
+        (spec.inverse_conversion (tables.table_of_deck table.old.deck) name.now x) result
         table.old table.new steps.old steps.new }
 {
     let y = table.unapply(alloc, name, &x, steps)?;

@@ -52,9 +52,9 @@ impl From<FracFault> for Failure {
 
 impl From<QueryFault> for Failure {
     ghost use Rattle.std.specs.Prelude.{◌≡◌};
-    ghost use Rattle.reply.specs.Calls.{failure_of};
+    ghost use Rattle.reply.specs.Calls.{inquiry_failure};
 
-    ghost from_gives = { λ fault failure. failure ≡ failure_of fault };
+    ghost from_gives = { λ fault failure. failure ≡ inquiry_failure fault };
 
     fn from(fault: QueryFault) -> Failure {
         match fault {

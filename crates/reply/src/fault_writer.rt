@@ -1,9 +1,9 @@
 //! Writes the texts of faults.
 
 ghost use Rattle.std.specs.Prelude.{◌≡◌, ◌++◌, IfOk, OnOk, true};
-ghost use Rattle.digits_print.specs.Styles.{IsStyle};
+ghost use Rattle.digits_print.specs.Styles.{IsPrintStyle};
 ghost use Rattle.reply.specs.Faults as spec;
-ghost use Rattle.reply.specs.Options.{IsPrintable, style_of};
+ghost use Rattle.reply.specs.Options.{AreReplyOptionsPrintable, reply_style};
 
 use crate::fault::ReplyFault;
 use crate::form::Form;
@@ -18,9 +18,9 @@ use units_io::Text;
 /// Returns the text of a fault: one line, with no tab before it and no line feed after it. The quantities of a sum are
 /// written in the style of the options. The only error is lack of memory.
 pub fn fault_text(alloc: Global, fault: &ReplyFault, options: &Options) -> Result<Text, AllocError>
-    requires told { spec.is_reportable fault.now ≡ true }
-    requires printable { IsPrintable options.now }
-    ensures { IfOk result (λ text. text ≡ spec.fault_text (style_of options.now) fault.now) }
+    requires told { spec.is_reply_fault_reportable fault.now ≡ true }
+    requires printable { AreReplyOptionsPrintable options.now }
+    ensures { IfOk result (λ text. text ≡ spec.fault_text (reply_style options.now) fault.now) }
 {
     let mut text = Vec::new(alloc);
     put_fault(alloc, &mut text, fault, Form::of(options).style)?;
@@ -34,8 +34,8 @@ pub(crate) fn put_fault(
     fault: &ReplyFault,
     style: Style,
 ) -> Result<(), AllocError>
-    requires told { spec.is_reportable fault.now ≡ true }
-    requires style { IsStyle style }
+    requires told { spec.is_reply_fault_reportable fault.now ≡ true }
+    requires style { IsPrintStyle style }
     ensures { OnOk result (text.new.items ≡ text.old.items ++ spec.fault_text style fault.now) }
 {
     match fault {
@@ -52,7 +52,7 @@ pub(crate) fn put_fault(
 
 // Appends the fault of a unit of a list. Its place is counted from 1 in the text.
 fn put_list_fault(alloc: Global, text: &mut Vec<u8>, place: usize) -> Result<(), AllocError>
-    ensures { OnOk result (text.new.items ≡ text.old.items ++ spec.list_fault_text place) }
+    ensures { OnOk result (text.new.items ≡ text.old.items ++ spec.reply_list_fault_text place) }
 {
     let count = place as u128 + 1;
     put_words(

@@ -1,7 +1,7 @@
 //! The form in which a reply is written.
 
 ghost use Rattle.std.specs.Prelude.{◌≡◌};
-ghost use Rattle.digits_print.specs.Styles.{IsStyle};
+ghost use Rattle.digits_print.specs.Styles.{IsPrintStyle};
 ghost use Rattle.reply.specs.Options as spec;
 
 use crate::options::Options;
@@ -30,9 +30,9 @@ pub(crate) struct Form {
 impl Form {
     /// Returns the form that the options select.
     pub(crate) fn of(options: &Options) -> Form
-        requires { spec.IsPrintable options.now }
+        requires { spec.AreReplyOptionsPrintable options.now }
         ensures is { result ≡ spec.reply_form options.now }
-        ensures style { IsStyle result.style }
+        ensures style { IsPrintStyle result.style }
     {
         let layout = if options.compact {
             Layout::Compact

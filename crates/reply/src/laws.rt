@@ -1,10 +1,10 @@
 //! Laws of replies. The functions do nothing: the contract of each is the law.
 
 ghost use Rattle.reply.specs.Examples.{ReplyExamplesLaw};
-ghost use Rattle.reply.specs.GrantExamples.{GrantExamplesLaw};
-ghost use Rattle.reply.specs.Grants.{GrantLaw};
-ghost use Rattle.reply.specs.Quotients.{QuotientLaw};
-ghost use Rattle.reply.specs.TextValues.{DenominatorLaw};
+ghost use Rattle.reply.specs.GrantExamples.{ConversionExamplesLaw};
+ghost use Rattle.reply.specs.Grants.{ConversionGrantLaw};
+ghost use Rattle.reply.specs.Quotients.{ConversionQuotientLaw};
+ghost use Rattle.reply.specs.TextValues.{ReplyDenominatorLaw};
 
 use deck::tables_are_of_lines;
 use frac128::reduced_law;
@@ -17,14 +17,14 @@ pub fn examples_law()
 
 /// The result of a division is a fraction if and only if it is the exact quotient.
 pub fn quotient_law()
-    ensures { QuotientLaw }
+    ensures { ConversionQuotientLaw }
 {
     reduced_law();
 }
 
 /// The value of a text has a denominator above 0.
 pub fn denominator_law()
-    ensures { DenominatorLaw }
+    ensures { ReplyDenominatorLaw }
 {
     reduced_law();
     tables_are_of_lines();
@@ -32,7 +32,7 @@ pub fn denominator_law()
 
 /// A reply grants exactly the conversions that are defined, and states their exact values.
 pub fn grant_law()
-    ensures { GrantLaw }
+    ensures { ConversionGrantLaw }
 {
     kind_law();
     quotient_law();
@@ -40,5 +40,5 @@ pub fn grant_law()
 
 /// A few texts are converted or refused as found by hand.
 pub fn grant_examples_law()
-    ensures { GrantExamplesLaw }
+    ensures { ConversionExamplesLaw }
 {}

@@ -2,11 +2,11 @@
 
 ghost use Rattle.std.specs.Prelude.{◌≡◌, ◌++◌, OnOk, codes};
 ghost use Rattle.std.specs.Option.{option_copied};
-ghost use Rattle.digits_print.specs.Styles.{IsStyle, number_text};
-ghost use Rattle.quantity.specs.Text.{amount_text};
+ghost use Rattle.digits_print.specs.Styles.{IsPrintStyle, printed_number_text};
+ghost use Rattle.quantity.specs.Text.{quantity_text};
 ghost use Rattle.reply.specs.Layouts as layouts;
 ghost use Rattle.reply.specs.Lines as spec;
-ghost use Rattle.reply.specs.Subjects.{subject_text};
+ghost use Rattle.reply.specs.Subjects.{reply_subject_text};
 
 use crate::conversion::Conversion;
 use crate::form::{Form, Layout};
@@ -42,7 +42,7 @@ pub(crate) fn put_conversion(
     question: &Question<'_>,
     conversion: &Conversion,
 ) -> Result<(), AllocError>
-    requires { IsStyle form.style }
+    requires { IsPrintStyle form.style }
     ensures { OnOk result (text.new.items ≡ text.old.items
         ++ spec.conversion_text form question.now.from.now question.now.to.now conversion.now) }
 {
@@ -69,9 +69,9 @@ fn put_linear(
     question: &Question<'_>,
     ratio: &Ratio,
 ) -> Result<(), AllocError>
-    requires { IsStyle form.style }
+    requires { IsPrintStyle form.style }
     ensures { OnOk result (text.new.items
-        ≡ text.old.items ++ spec.linear_text form question.now.from.now question.now.to.now ratio.now) }
+        ≡ text.old.items ++ spec.linear_conversion_text form question.now.from.now question.now.to.now ratio.now) }
 {
     let equation = Equation {
         left: Subject::Asked(question.from),
@@ -88,9 +88,10 @@ fn put_equation(
     equation: Equation<'_>,
     ratio: &Ratio,
 ) -> Result<(), AllocError>
-    requires { IsStyle form.style }
+    requires { IsPrintStyle form.style }
     ensures { OnOk result (text.new.items ≡ text.old.items
-        ++ spec.linear_text form (subject_text equation.entry.left) equation.entry.right.now ratio.now) }
+        ++ spec.linear_conversion_text form (reply_subject_text equation.entry.left) equation.entry.right.now
+        ratio.now) }
 {
     put_forward(alloc, text, form, equation, ratio)?;
     put_backward(alloc, text, form, equation, ratio)
@@ -104,10 +105,10 @@ fn put_forward(
     equation: Equation<'_>,
     ratio: &Ratio,
 ) -> Result<(), AllocError>
-    requires { IsStyle form.style }
-    ensures { OnOk result (text.new.items ≡ text.old.items ++ layouts.laid form.layout
-        (layouts.forward_text form.layout (subject_text equation.entry.left) equation.entry.right.now
-        (number_text form.style ratio.now.forward))) }
+    requires { IsPrintStyle form.style }
+    ensures { OnOk result (text.new.items ≡ text.old.items ++ layouts.layout_line form.layout
+        (layouts.layout_forward_text form.layout (reply_subject_text equation.entry.left) equation.entry.right.now
+        (printed_number_text form.style ratio.now.forward))) }
 {
     put_tab(text, form.layout)?;
     match form.layout {
@@ -136,9 +137,10 @@ fn put_backward(
     equation: Equation<'_>,
     ratio: &Ratio,
 ) -> Result<(), AllocError>
-    requires { IsStyle form.style }
+    requires { IsPrintStyle form.style }
     ensures { OnOk result (text.new.items ≡ text.old.items
-        ++ spec.backward_line form (subject_text equation.entry.left) equation.entry.right.now ratio.now.back) }
+        ++ spec.conversion_backward_line form (reply_subject_text equation.entry.left) equation.entry.right.now
+        ratio.now.back) }
 {
     if form.one_line {
         return Ok(());
@@ -164,7 +166,7 @@ fn put_backward(
 
 // Appends the left-hand side of a linear conversion.
 fn put_subject(text: &mut Vec<u8>, subject: Subject<'_>) -> Result<(), AllocError>
-    ensures { OnOk result (text.new.items ≡ text.old.items ++ subject_text subject.entry) }
+    ensures { OnOk result (text.new.items ≡ text.old.items ++ reply_subject_text subject.entry) }
 {
     match subject {
         Subject::Asked(from) => {
@@ -188,9 +190,9 @@ fn put_reciprocal(
     question: &Question<'_>,
     ratio: &Ratio,
 ) -> Result<(), AllocError>
-    requires { IsStyle form.style }
+    requires { IsPrintStyle form.style }
     ensures { OnOk result (text.new.items
-        ≡ text.old.items ++ spec.reciprocal_text form question.now.from.now question.now.to.now ratio.now) }
+        ≡ text.old.items ++ spec.reciprocal_conversion_text form question.now.from.now question.now.to.now ratio.now) }
 {
     put_line(text, form.layout, b"reciprocal conversion")?;
     let equation = Equation {
@@ -208,9 +210,9 @@ fn put_inverse(
     question: &Question<'_>,
     x: &Quantity,
 ) -> Result<(), AllocError>
-    requires { IsStyle form.style }
+    requires { IsPrintStyle form.style }
     ensures { OnOk result (text.new.items
-        ≡ text.old.items ++ spec.inverse_text form question.now.from.now question.now.to.now x.now) }
+        ≡ text.old.items ++ spec.inverse_conversion_text form question.now.from.now question.now.to.now x.now) }
 {
     put_tab(text, form.layout)?;
     put_front(text, form.layout, question.from)?;
@@ -227,9 +229,9 @@ fn put_call(
     name: &[u8],
     x: &Quantity,
 ) -> Result<(), AllocError>
-    requires { IsStyle form.style }
+    requires { IsPrintStyle form.style }
     ensures { OnOk result (text.new.items
-        ≡ text.old.items ++ layouts.call_text form.layout name.now (amount_text form.style x.now)) }
+        ≡ text.old.items ++ layouts.layout_call_text form.layout name.now (quantity_text form.style x.now)) }
 {
     match form.layout {
         Layout::Verbose => {
@@ -251,8 +253,8 @@ fn put_unlike(
     x: &Quantity,
     y: &Quantity,
 ) -> Result<(), AllocError>
-    requires { IsStyle form.style }
-    ensures { OnOk result (text.new.items ≡ text.old.items ++ spec.unlike_text form x.now y.now) }
+    requires { IsPrintStyle form.style }
+    ensures { OnOk result (text.new.items ≡ text.old.items ++ spec.nonconforming_conversion_text form x.now y.now) }
 {
     text.extend_from_slice(b"conformability error\n".as_slice())?;
     put_shown(alloc, text, form, x)?;
@@ -261,9 +263,9 @@ fn put_unlike(
 
 // Appends a line with a quantity.
 fn put_shown(alloc: Global, text: &mut Vec<u8>, form: Form, x: &Quantity) -> Result<(), AllocError>
-    requires { IsStyle form.style }
+    requires { IsPrintStyle form.style }
     ensures { OnOk result (text.new.items
-        ≡ text.old.items ++ layouts.laid form.layout (amount_text form.style x.now)) }
+        ≡ text.old.items ++ layouts.layout_line form.layout (quantity_text form.style x.now)) }
 {
     put_tab(text, form.layout)?;
     put_quantity(alloc, text, form.style, x)?;
@@ -279,9 +281,9 @@ pub(crate) fn put_definition(
     body: Option<&[u8]>,
     x: &Quantity,
 ) -> Result<(), AllocError>
-    requires { IsStyle form.style }
+    requires { IsPrintStyle form.style }
     ensures { OnOk result (text.new.items
-        ≡ text.old.items ++ spec.definition_text form (option_copied body.entry) x.now) }
+        ≡ text.old.items ++ spec.definition_reply_text form (option_copied body.entry) x.now) }
 {
     match form.layout {
         Layout::Compact => {}
@@ -295,7 +297,7 @@ pub(crate) fn put_definition(
 // Appends the text before the value of a definition.
 fn put_definition_front(text: &mut Vec<u8>, body: Option<&[u8]>) -> Result<(), AllocError>
     ensures { OnOk result (text.new.items
-        ≡ text.old.items ++ (codes "\tDefinition: " ++ spec.body_front (option_copied body.entry))) }
+        ≡ text.old.items ++ (codes "\tDefinition: " ++ spec.definition_reply_front (option_copied body.entry))) }
 {
     text.extend_from_slice(b"\tDefinition: ".as_slice())?;
     match body {
@@ -310,7 +312,7 @@ fn put_definition_front(text: &mut Vec<u8>, body: Option<&[u8]>) -> Result<(), A
 
 // Appends a line of words.
 fn put_line(text: &mut Vec<u8>, layout: Layout, words: &[u8]) -> Result<(), AllocError>
-    ensures { OnOk result (text.new.items ≡ text.old.items ++ layouts.laid layout words.now) }
+    ensures { OnOk result (text.new.items ≡ text.old.items ++ layouts.layout_line layout words.now) }
 {
     put_tab(text, layout)?;
     text.extend_from_slice(words)?;
@@ -320,7 +322,7 @@ fn put_line(text: &mut Vec<u8>, layout: Layout, words: &[u8]) -> Result<(), Allo
 
 /// Appends the start of a line: a tab, except in the compact layout.
 pub(crate) fn put_tab(text: &mut Vec<u8>, layout: Layout) -> Result<(), AllocError>
-    ensures { OnOk result (text.new.items ≡ text.old.items ++ layouts.tab layout) }
+    ensures { OnOk result (text.new.items ≡ text.old.items ++ layouts.layout_tab layout) }
 {
     match layout {
         Layout::Compact => Ok(()),
@@ -333,7 +335,7 @@ pub(crate) fn put_tab(text: &mut Vec<u8>, layout: Layout) -> Result<(), AllocErr
 
 /// Appends FROM and an equals sign in the verbose layout.
 pub(crate) fn put_front(text: &mut Vec<u8>, layout: Layout, from: &[u8]) -> Result<(), AllocError>
-    ensures { OnOk result (text.new.items ≡ text.old.items ++ layouts.equation_front layout from.now) }
+    ensures { OnOk result (text.new.items ≡ text.old.items ++ layouts.layout_equation_front layout from.now) }
 {
     match layout {
         Layout::Verbose => {

@@ -1,7 +1,7 @@
 //! How often one number goes into another.
 
 ghost use Rattle.std.specs.Prelude.{◌≡◌, pos};
-ghost use Rattle.frac128.specs.Fraction.{whole};
+ghost use Rattle.frac128.specs.Fraction.{whole_fraction};
 ghost use Rattle.reply.specs.Ratios as spec;
 
 use frac128::{Frac, FracFault};
@@ -16,7 +16,7 @@ pub(crate) struct Ratio {
 
 /// Returns from/to and to/from. Fails if a quotient has no value.
 pub(crate) fn ratio_of(from: &Frac, to: &Frac) -> Result<Ratio, FracFault>
-    ensures { result ≡ spec.ratio_of from.now to.now }
+    ensures { result ≡ spec.conversion_ratio from.now to.now }
 {
     let forward = from.div(to)?;
     let back = backward(from, to)?;
@@ -25,7 +25,7 @@ pub(crate) fn ratio_of(from: &Frac, to: &Frac) -> Result<Ratio, FracFault>
 
 // Returns to/from, or `None` if `from` is 0.
 fn backward(from: &Frac, to: &Frac) -> Result<Option<Frac>, FracFault>
-    ensures { result ≡ spec.inverse_ratio from.now to.now }
+    ensures { result ≡ spec.inverse_conversion_ratio from.now to.now }
 {
     if from.is_zero() {
         return Ok(None);
@@ -36,14 +36,14 @@ fn backward(from: &Frac, to: &Frac) -> Result<Option<Frac>, FracFault>
 
 /// Returns the ratio of 1/from and `to`. Fails if a quotient has no value.
 pub(crate) fn reciprocal_ratio(from: &Frac, to: &Frac) -> Result<Ratio, FracFault>
-    ensures { result ≡ spec.reciprocal_ratio from.now to.now }
+    ensures { result ≡ spec.reciprocal_conversion_ratio from.now to.now }
 {
     let inverse = one().div(from)?;
     ratio_of(&inverse, to)
 }
 
 fn one() -> Frac
-    ensures { result ≡ whole (pos 1) }
+    ensures { result ≡ whole_fraction (pos 1) }
 {
     Frac::new(1, 1).unwrap()
 }

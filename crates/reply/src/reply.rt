@@ -6,12 +6,12 @@ ghost use Rattle.deck.specs.Tables as tables;
 ghost use Rattle.def_entry.specs.declared.key.Kind.TheVariants as kinds;
 ghost use Rattle.def_entry.specs.Keys as keys;
 ghost use Rattle.def_entry.specs.Tables.{entry_at};
-ghost use Rattle.digits_print.specs.Styles.{IsStyle};
-ghost use Rattle.live_table.specs.Calls.{AreQueries};
+ghost use Rattle.digits_print.specs.Styles.{IsPrintStyle};
+ghost use Rattle.live_table.specs.Calls.{AreLiveQueries};
 ghost use Rattle.reply.specs.Conversions as conversions;
 ghost use Rattle.reply.specs.Faults as faults;
 ghost use Rattle.reply.specs.Grants.{IsConversionReply};
-ghost use Rattle.reply.specs.Options.{IsPrintable, style_of};
+ghost use Rattle.reply.specs.Options.{AreReplyOptionsPrintable, reply_style};
 ghost use Rattle.reply.specs.declared.reply.FromValue.TheVariants.{Bad};
 ghost use Rattle.reply.specs.Replies as spec;
 
@@ -66,12 +66,13 @@ pub fn convert_reply<L: Ledger>(
     to: &[u8],
     steps: &mut Steps<L>,
 ) -> Result<Reply, AllocError>
-    requires { IsPrintable options.now }
+    requires { AreReplyOptionsPrintable options.now }
     ensures reply { IfOk result (λ reply.
-        reply ≡ spec.conversion_reply (tables.table table.old.deck) options.now from.now to.now) }
+        reply ≡ spec.conversion_reply (tables.table_of_deck table.old.deck) options.now from.now to.now) }
     ensures exact { IfOk result (λ reply.
-        IsConversionReply (tables.table table.old.deck) options.now from.now to.now reply) }
-    ensures queries { AreQueries (spec.conversion_queries (tables.table table.old.deck) options.now from.now to.now)
+        IsConversionReply (tables.table_of_deck table.old.deck) options.now from.now to.now reply) }
+    ensures queries { AreLiveQueries
+        (spec.conversion_queries (tables.table_of_deck table.old.deck) options.now from.now to.now)
         result table.old table.new steps.old steps.new }
     ensures deck { table.new.deck ≡ table.old.deck }
 {
@@ -97,7 +98,7 @@ pub fn comparison_reply(
     x: Quantity,
     y: &Quantity,
 ) -> Result<Reply, AllocError>
-    requires { IsPrintable question.now.options.now }
+    requires { AreReplyOptionsPrintable question.now.options.now }
     ensures { IfOk result (λ reply. reply
         ≡ spec.comparison_reply question.now.options.now question.now.from.now question.now.to.now x y.now) }
 {
@@ -119,10 +120,10 @@ pub fn definition_reply<L: Ledger>(
     from: &[u8],
     steps: &mut Steps<L>,
 ) -> Result<Reply, AllocError>
-    requires { IsPrintable options.now }
+    requires { AreReplyOptionsPrintable options.now }
     ensures reply { IfOk result (λ reply.
-        reply ≡ spec.definition_reply (tables.table table.old.deck) options.now from.now) }
-    ensures queries { AreQueries (spec.value_queries (tables.table table.old.deck) from.now)
+        reply ≡ spec.definition_reply (tables.table_of_deck table.old.deck) options.now from.now) }
+    ensures queries { AreLiveQueries (spec.inquiry_value_queries (tables.table_of_deck table.old.deck) from.now)
         result table.old table.new steps.old steps.new }
     ensures deck { table.new.deck ≡ table.old.deck }
 {
@@ -145,10 +146,10 @@ pub fn from_value<L: Ledger>(
     from: &[u8],
     steps: &mut Steps<L>,
 ) -> Result<FromValue, AllocError>
-    requires { IsPrintable options.now }
+    requires { AreReplyOptionsPrintable options.now }
     ensures value { IfOk result (λ value.
-        value ≡ spec.from_value (tables.table table.old.deck) options.now from.now) }
-    ensures queries { AreQueries (spec.value_queries (tables.table table.old.deck) from.now)
+        value ≡ spec.from_value (tables.table_of_deck table.old.deck) options.now from.now) }
+    ensures queries { AreLiveQueries (spec.inquiry_value_queries (tables.table_of_deck table.old.deck) from.now)
         result table.old table.new steps.old steps.new }
     ensures deck { table.new.deck ≡ table.old.deck }
 {
@@ -163,9 +164,9 @@ pub fn from_value<L: Ledger>(
 
 // Returns a fault in place of a value.
 fn bad(alloc: Global, options: &Options, fault: &ReplyFault) -> Result<FromValue, AllocError>
-    requires told { faults.is_reportable fault.now ≡ true }
-    requires printable { IsPrintable options.now }
-    ensures { IfOk result (λ value. value ≡ Bad (faults.fault_text (style_of options.now) fault.now)) }
+    requires told { faults.is_reply_fault_reportable fault.now ≡ true }
+    requires printable { AreReplyOptionsPrintable options.now }
+    ensures { IfOk result (λ value. value ≡ Bad (faults.fault_text (reply_style options.now) fault.now)) }
 {
     let text = fault_text(alloc, fault, options)?;
     Ok(FromValue::Bad(text))
@@ -178,9 +179,9 @@ fn reply_to_conversion(
     question: &Question<'_>,
     conversion: &Conversion,
 ) -> Result<Reply, AllocError>
-    requires { IsStyle form.style }
+    requires { IsPrintStyle form.style }
     ensures { IfOk result (λ reply. reply
-        ≡ spec.conversion_as form question.now.from.now question.now.to.now conversion.now) }
+        ≡ spec.conversion_as_reply form question.now.from.now question.now.to.now conversion.now) }
 {
     let mut text = Vec::new(alloc);
     put_conversion(alloc, &mut text, form, question, conversion)?;
@@ -192,7 +193,7 @@ fn reply_to_conversion(
 
 // Whether a conversion is not a conformability error.
 fn is_granted(conversion: &Conversion) -> bool
-    ensures { result ≡ conversions.is_granted conversion.now }
+    ensures { result ≡ conversions.is_conversion_granted conversion.now }
 {
     match conversion {
         Conversion::NonConforming(_, _) => false,
@@ -208,10 +209,10 @@ fn reply_to_value(
     from: &[u8],
     x: &Quantity,
 ) -> Result<Reply, AllocError>
-    requires { IsStyle form.style }
+    requires { IsPrintStyle form.style }
     ensures { IfOk result (λ reply. reply
-        ≡ spec.definition_as form
-        (spec.body_of (entry_at (tables.table deck.now) (keys.key kinds.Unit from.now))) x.now) }
+        ≡ spec.definition_as_reply form
+        (spec.reply_body_of_entry (entry_at (tables.table_of_deck deck.now) (keys.key kinds.Unit from.now))) x.now) }
 {
     let mut text = Vec::new(alloc);
     put_definition(alloc, &mut text, form, body_text(deck, from), x)?;
@@ -223,7 +224,8 @@ fn reply_to_value(
 
 // Returns the text of the expression that defines the unit with this name, if there is one.
 fn body_text<'a>(deck: &'a Deck, name: &[u8]) -> Option<&'a [u8]>
-    ensures { option_copied result ≡ spec.body_of (entry_at (tables.table deck.now) (keys.key kinds.Unit name.now)) }
+    ensures { option_copied result
+        ≡ spec.reply_body_of_entry (entry_at (tables.table_of_deck deck.now) (keys.key kinds.Unit name.now)) }
 {
     let Some(entry) = deck.entry(Kind::Unit, name) else {
         return None;
@@ -236,9 +238,9 @@ fn body_text<'a>(deck: &'a Deck, name: &[u8]) -> Option<&'a [u8]>
 
 // Returns the reply that states a fault.
 fn refusal(alloc: Global, form: Form, fault: &ReplyFault) -> Result<Reply, AllocError>
-    requires told { faults.is_reportable fault.now ≡ true }
-    requires style { IsStyle form.style }
-    ensures { IfOk result (λ reply. reply ≡ spec.refusal form fault.now) }
+    requires told { faults.is_reply_fault_reportable fault.now ≡ true }
+    requires style { IsPrintStyle form.style }
+    ensures { IfOk result (λ reply. reply ≡ spec.refusal_reply form fault.now) }
 {
     let mut text = Vec::new(alloc);
     put_fault(alloc, &mut text, fault, form.style)?;

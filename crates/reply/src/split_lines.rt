@@ -2,9 +2,9 @@
 
 ghost use Rattle.std.specs.Prelude.{◌≡◌, ◌++◌, OnOk};
 ghost use Rattle.std.specs.Option.{option_copied};
-ghost use Rattle.digits_print.specs.Styles.{IsStyle};
+ghost use Rattle.digits_print.specs.Styles.{IsPrintStyle};
 ghost use Rattle.reply.specs.Lines as spec;
-ghost use Rattle.reply.specs.Targets.{parts_behind, parts_of};
+ghost use Rattle.reply.specs.Targets.{conversion_target_parts, conversion_target_parts_after_cut};
 
 use crate::form::{Form, Layout};
 use crate::lines::{put_front, put_tab};
@@ -28,9 +28,9 @@ pub(crate) fn put_split(
     from: &[u8],
     parts: PartCounts<'_>,
 ) -> Result<(), AllocError>
-    requires { IsStyle form.style }
+    requires { IsPrintStyle form.style }
     ensures { OnOk result (text.new.items
-        ≡ text.old.items ++ spec.split_text form from.now parts.entry.list.now parts.entry.counts.now) }
+        ≡ text.old.items ++ spec.split_conversion_text form from.now parts.entry.list.now parts.entry.counts.now) }
 {
     put_tab(text, form.layout)?;
     put_front(text, form.layout, from)?;
@@ -47,9 +47,9 @@ fn put_counts(
     list: &[u8],
     counts: &[Frac],
 ) -> Result<(), AllocError>
-    requires { IsStyle form.style }
+    requires { IsPrintStyle form.style }
     ensures { OnOk result (text.new.items
-        ≡ text.old.items ++ spec.counts_text form (parts_of list.now) counts.now) }
+        ≡ text.old.items ++ spec.conversion_counts_text form (conversion_target_parts list.now) counts.now) }
 {
     let (part, behind) = cut_part(list);
     match counts.split_first() {
@@ -69,9 +69,10 @@ fn put_further(
     list: Option<&[u8]>,
     counts: &[Frac],
 ) -> Result<(), AllocError>
-    requires { IsStyle form.style }
+    requires { IsPrintStyle form.style }
     ensures { OnOk result (text.new.items
-        ≡ text.old.items ++ spec.further_text form (parts_behind (option_copied list.entry)) counts.now) }
+        ≡ text.old.items ++ spec.conversion_further_counts_text form
+        (conversion_target_parts_after_cut (option_copied list.entry)) counts.now) }
 {
     let mut rest = list;
     for count in counts {
@@ -94,8 +95,8 @@ fn put_count(
     part: &[u8],
     count: &Frac,
 ) -> Result<(), AllocError>
-    requires { IsStyle form.style }
-    ensures { OnOk result (text.new.items ≡ text.old.items ++ spec.count_text form part.now count.now) }
+    requires { IsPrintStyle form.style }
+    ensures { OnOk result (text.new.items ≡ text.old.items ++ spec.conversion_count_text form part.now count.now) }
 {
     put_number(alloc, text, form.style, count)?;
     match form.layout {
@@ -110,7 +111,7 @@ fn put_count(
 
 // Appends the separator of two counts.
 fn put_between(text: &mut Vec<u8>, layout: Layout) -> Result<(), AllocError>
-    ensures { OnOk result (text.new.items ≡ text.old.items ++ spec.separator layout) }
+    ensures { OnOk result (text.new.items ≡ text.old.items ++ spec.layout_count_separator layout) }
 {
     match layout {
         Layout::Compact => text.extend_from_slice(b";".as_slice())?,

@@ -3,7 +3,7 @@
 ghost use Rattle.std.specs.Prelude.{◌≡◌, IfOk};
 ghost use Rattle.std.specs.List.{list_any};
 ghost use Rattle.deck.specs.Tables as tables;
-ghost use Rattle.def_entry.specs.EntryReading.{is_semicolon};
+ghost use Rattle.def_entry.specs.EntryReading.{is_entry_semicolon};
 ghost use Rattle.reply.specs.Targets as spec;
 
 use deck::Deck;
@@ -24,7 +24,7 @@ pub(crate) enum Target {
 
 /// Returns the meaning of the text of a target. The only error is lack of memory.
 pub(crate) fn target_of(alloc: Global, deck: &Deck, to: &[u8]) -> Result<Target, AllocError>
-    ensures { IfOk result (λ target. target ≡ spec.conversion_target (tables.table deck.now) to.now) }
+    ensures { IfOk result (λ target. target ≡ spec.conversion_target (tables.table_of_deck deck.now) to.now) }
 {
     if deck.entry(Kind::Func, to).is_some() {
         return Ok(Target::Function);
@@ -40,7 +40,7 @@ pub(crate) fn target_of(alloc: Global, deck: &Deck, to: &[u8]) -> Result<Target,
 
 /// Whether the text contains a `;`, and so is a list of units unless it is a name. It allocates no memory.
 pub fn has_semicolon(text: &[u8]) -> bool
-    ensures { result ≡ list_any is_semicolon text.now }
+    ensures { result ≡ list_any is_entry_semicolon text.now }
 {
     text.iter().any(|byte| *byte == b';')
 }

@@ -5,7 +5,7 @@ ghost use Rattle.deck.specs.Tables as tables;
 ghost use Rattle.expr_tree.specs.Trees.{syntax};
 ghost use Rattle.reply.specs.Calls as call;
 ghost use Rattle.reply.specs.Inquiries as spec;
-ghost use Rattle.reply.specs.Targets.{parts_of};
+ghost use Rattle.reply.specs.Targets.{conversion_target_parts};
 ghost use Rattle.reply.specs.Trees as trees;
 
 use crate::failure::Failure;
@@ -20,7 +20,7 @@ use units_io::Steps;
 
 // Parses a text.
 fn tree_in(alloc: Global, text: &[u8]) -> Result<Tree, Failure>
-    ensures { call.IsRead syntax (trees.tree_in text.now) result }
+    ensures { call.IsInquiryWithoutQueriesAnswered syntax (trees.inquiry_tree text.now) result }
 {
     match parse_expr(alloc, text, None) {
         Ok(tree) => Ok(tree),
@@ -31,7 +31,8 @@ fn tree_in(alloc: Global, text: &[u8]) -> Result<Tree, Failure>
 
 /// Returns the trees of the parts of a list. Fails with the first fault.
 pub(crate) fn part_trees(alloc: Global, list: &[u8]) -> Result<Vec<Tree>, Failure>
-    ensures { call.IsRead (λ trees. call.syntaxes_of trees.items) (trees.trees_in (parts_of list.now)) result }
+    ensures { call.IsInquiryWithoutQueriesAnswered (λ trees. call.inquiry_syntaxes trees.items)
+        (trees.inquiry_trees (conversion_target_parts list.now)) result }
 {
     let mut trees = Vec::new(alloc);
     let mut rest = Some(list);
@@ -52,8 +53,9 @@ fn evaluate_tree<L: Ledger>(
     steps: &mut Steps<L>,
 ) -> Result<Quantity, QueryFault>
     ensures deck { table.new.deck ≡ table.old.deck }
-    ensures inquired { call.IsInquired call.itself (spec.tree_value (tables.table table.old.deck) (syntax tree.now))
-        (call.as_inquired result) table.old table.new steps.old steps.new }
+    ensures inquired { call.IsInquiryAnswered call.inquiry_identity
+        (spec.tree_value (tables.table_of_deck table.old.deck) (syntax tree.now))
+        (call.inquiry_result result) table.old table.new steps.old steps.new }
 {
     table.value(alloc, tree, steps)
 }
@@ -67,9 +69,9 @@ pub fn evaluate_texts<L: Ledger>(
     steps: &mut Steps<L>,
 ) -> Result<Vec<Quantity>, QueryFault>
     ensures deck { table.new.deck ≡ table.old.deck }
-    ensures inquired { call.IsInquired (λ values. values.items)
-        (spec.worths (tables.table table.old.deck) (call.syntaxes_of trees.now)) (call.as_inquired result)
-        table.old table.new steps.old steps.new }
+    ensures inquired { call.IsInquiryAnswered (λ values. values.items)
+        (spec.worths (tables.table_of_deck table.old.deck) (call.inquiry_syntaxes trees.now))
+        (call.inquiry_result result) table.old table.new steps.old steps.new }
 {
     // The cached outcomes are right even if nothing is queried.
     table.outcomes_are_right();
@@ -97,7 +99,8 @@ pub(crate) fn evaluate_text<L: Ledger>(
     steps: &mut Steps<L>,
 ) -> Result<Quantity, Failure>
     ensures deck { table.new.deck ≡ table.old.deck }
-    ensures inquired { call.IsInquired call.itself (spec.text_worth (tables.table table.old.deck) text.now) result
+    ensures inquired { call.IsInquiryAnswered call.inquiry_identity
+        (spec.text_worth (tables.table_of_deck table.old.deck) text.now) result
         table.old table.new steps.old steps.new }
 {
     // The cached outcomes are right even if nothing is queried.

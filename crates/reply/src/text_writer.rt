@@ -1,8 +1,8 @@
 //! Appends words, numbers and quantities to a text.
 
 ghost use Rattle.std.specs.Prelude.{◌≡◌, ◌++◌, OnOk};
-ghost use Rattle.digits_print.specs.Styles.{IsStyle, number_text};
-ghost use Rattle.quantity.specs.Text.{amount_text};
+ghost use Rattle.digits_print.specs.Styles.{IsPrintStyle, printed_number_text};
+ghost use Rattle.quantity.specs.Text.{quantity_text};
 ghost use Rattle.reply.specs.Lines as spec;
 
 use digits_print::{Style, print_number};
@@ -26,8 +26,8 @@ pub(crate) fn put_number(
     style: Style,
     x: &Frac,
 ) -> Result<(), AllocError>
-    requires { IsStyle style }
-    ensures { OnOk result (text.new.items ≡ text.old.items ++ number_text style x.now) }
+    requires { IsPrintStyle style }
+    ensures { OnOk result (text.new.items ≡ text.old.items ++ printed_number_text style x.now) }
 {
     let number = print_number(alloc, x, style)?;
     text.extend_from_slice(number.as_bytes())?;
@@ -41,8 +41,8 @@ pub(crate) fn put_some_number(
     style: Style,
     x: &Option<Frac>,
 ) -> Result<(), AllocError>
-    requires { IsStyle style }
-    ensures { OnOk result (text.new.items ≡ text.old.items ++ spec.some_number_text style x.now) }
+    requires { IsPrintStyle style }
+    ensures { OnOk result (text.new.items ≡ text.old.items ++ spec.reply_number_text style x.now) }
 {
     match x {
         Some(x) => put_number(alloc, text, style, x),
@@ -60,8 +60,8 @@ pub(crate) fn put_quantity(
     style: Style,
     x: &Quantity,
 ) -> Result<(), AllocError>
-    requires { IsStyle style }
-    ensures { OnOk result (text.new.items ≡ text.old.items ++ amount_text style x.now) }
+    requires { IsPrintStyle style }
+    ensures { OnOk result (text.new.items ≡ text.old.items ++ quantity_text style x.now) }
 {
     let shown = x.show(alloc, style)?;
     text.extend_from_slice(shown.as_bytes())?;

@@ -1,20 +1,21 @@
 -- The count of failed fetches after an answer.
 use Rattle.std.proofs.Common.{◌≡◌, ◌∙◌, ℕ, Bool, false, ap, refl, Ok, Err}
 use Rattle.std.specs.Prelude.{Result}
-use Rattle.session.specs.AnswerEffects.{faults_after}
+use Rattle.session.specs.AnswerEffects.{fetch_faults_after_answer}
 use Rattle.session.specs.declared.fault.SessionFault.{SessionFault}
 use Rattle.session.specs.declared.fault.SessionFault.TheVariants.{OutOfMemory, ReadFailed, WriteFailed}
 
 -- the count is the same unless a file could not be read
-pub unread : {A : Type 0} (n : ℕ) (result : Result A SessionFault) → (result ≡ Err ReadFailed → ⊥)
-    → n ≡ faults_after n result
-unread n (Ok x) h = refl
-unread n (Err ReadFailed) h = absurd (h refl)
-unread n (Err WriteFailed) h = refl
-unread n (Err OutOfMemory) h = refl
+pub session_fetch_faults_unchanged : {A : Type 0} (n : ℕ) (result : Result A SessionFault)
+    → (result ≡ Err ReadFailed → ⊥)
+    → n ≡ fetch_faults_after_answer n result
+session_fetch_faults_unchanged n (Ok x) h = refl
+session_fetch_faults_unchanged n (Err ReadFailed) h = absurd (h refl)
+session_fetch_faults_unchanged n (Err WriteFailed) h = refl
+session_fetch_faults_unchanged n (Err OutOfMemory) h = refl
 
 -- the count is the same if the session goes on
-pub same_fault_count : (before now : ℕ) (fed : Result Bool SessionFault) → fed ≡ Ok false
-    → now ≡ faults_after before fed
+pub fed_session_keeps_fetch_faults : (before now : ℕ) (fed : Result Bool SessionFault) → fed ≡ Ok false
+    → now ≡ fetch_faults_after_answer before fed
     → now ≡ before
-same_fault_count before now fed is counted = counted ∙ ap (faults_after before) is
+fed_session_keeps_fetch_faults before now fed is counted = counted ∙ ap (fetch_faults_after_answer before) is

@@ -3,13 +3,13 @@ use Rattle.std.specs.Prelude.{◌++◌, ℕ, List, codes}
 use Rattle.std.specs.List.{flat_map}
 
 -- a text with a line feed
-abbrev pub line_of : (text : List ℕ) → List ℕ
-line_of text = text ++ codes "\n"
+abbrev pub session_line_of_text : (text : List ℕ) → List ℕ
+session_line_of_text text = text ++ codes "\n"
 
 -- texts, each with a line feed
-abbrev pub lines_of_texts : (texts : List (List ℕ)) → List ℕ
-lines_of_texts texts = flat_map line_of texts
+abbrev pub session_lines_of_texts : (texts : List (List ℕ)) → List ℕ
+session_lines_of_texts texts = flat_map session_line_of_text texts
 
 -- a line with some words, followed by a word
-abbrev pub word_line : (words word : List ℕ) → List ℕ
-word_line words word = line_of (words ++ word)
+abbrev pub session_line_with_word : (words word : List ℕ) → List ℕ
+session_line_with_word words word = session_line_of_text (words ++ word)

@@ -6,12 +6,13 @@ use Rattle.session.specs.Trials.{Trial}
 use Rattle.session.specs.declared.session_output.Said.{Said}
 
 -- the summary of a trial, and the count of settled names
-pub record Tells (trial : Trial) (told : List ℕ) (steps_old steps_new : ℕ) : Type 0 where
+pub record IsTrialSummary (trial : Trial) (told : List ℕ) (steps_old steps_new : ℕ) : Type 0 where
   pub text : told ≡ trial.text
   pub steps : steps_new ≡ steps_old + trial.steps
 
 -- a session has put all of a talk on `out`, and is in the state after it
-pub record IsTalked (talk : SessionTrace) (said : Said) (new : SessionState) (steps_old steps_new : ℕ) : Type 0 where
-  pub out : said.out.items ≡ talk.out
-  pub session : new ≡ talk.state.session
-  pub steps : steps_new ≡ steps_old + talk.steps
+pub record IsTalkSpoken (talk : SessionTrace) (said : Said) (new : SessionState) (steps_old steps_new : ℕ) : Type 0
+  where
+    pub out : said.out.items ≡ talk.out
+    pub session : new ≡ talk.state.session
+    pub steps : steps_new ≡ steps_old + talk.steps

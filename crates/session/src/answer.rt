@@ -2,17 +2,18 @@
 
 ghost use Rattle.std.specs.Prelude.{◌≡◌, ◌≤◌, length, None, Some, IfOk, IsErrOf, OnOk, [], false, true};
 ghost use Rattle.units_io.specs.FileMap.{FileMap, longest_file, with_file};
-ghost use Rattle.units_io.specs.Faults.{CountRose};
+ghost use Rattle.units_io.specs.Faults.{HasIoCountRisen};
 ghost use Rattle.deck_save.specs.SavedText.{saved_file};
-ghost use Rattle.session.specs.AnswerEffects.{AreCounted, FailsOnlyForMemory, IsAnswerTo, file_faults, scene_of};
-ghost use Rattle.session.specs.Answers.{files_saved, save_reply_text};
+ghost use Rattle.session.specs.AnswerEffects.{AnswerFailsOnlyForMemory, AreSessionFileFaultsCounted, IsSessionAnswerTo};
+ghost use Rattle.session.specs.AnswerEffects.{session_file_faults, session_scene};
+ghost use Rattle.session.specs.Answers.{files_after_session_save, session_save_reply};
 ghost use Rattle.session.specs.Commands as commands;
-ghost use Rattle.session.specs.HeardLines.{longest_line};
-ghost use Rattle.session.specs.FilesLeft.{LineKeeps, SaveKeeps};
+ghost use Rattle.session.specs.HeardLines.{longest_session_line};
+ghost use Rattle.session.specs.FilesLeft.{SessionLineKeepsFiles, SessionSaveKeepsFiles};
 ghost use Rattle.session.specs.Lines as lines;
-ghost use Rattle.session.specs.Parts.{IsAnswerGiven, IsLine};
-ghost use Rattle.session.specs.CommandViews.{seen_command};
-ghost use Rattle.session.specs.Sessions.{IsOneSession, session_in, state_of};
+ghost use Rattle.session.specs.Parts.{IsSessionAnswerGiven, IsSessionLineReply};
+ghost use Rattle.session.specs.CommandViews.{session_command_view};
+ghost use Rattle.session.specs.Sessions.{IsOneSession, session_and_files, session_in};
 ghost use Rattle.session.specs.Steps as spec;
 
 use crate::command::{Command, read_command};
@@ -43,7 +44,7 @@ pub struct LineReply {
 
 /// Returns a reply with a text on `out` and nothing on `err`.
 pub(crate) fn output_reply(alloc: Global, out: Text) -> LineReply
-    ensures { IsLine result out [] false }
+    ensures { IsSessionLineReply result out [] false }
 {
     LineReply {
         out,
@@ -54,14 +55,15 @@ pub(crate) fn output_reply(alloc: Global, out: Text) -> LineReply
 
 // Returns a reply that consists of a line on `out`: some words, followed by a word.
 fn saying_word(alloc: Global, words: &[u8], word: &[u8]) -> Result<LineReply, AllocError>
-    ensures { IfOk result (λ reply. IsLine reply (lines.word_line words.now word.now) [] false) }
+    ensures { IfOk result (λ reply. IsSessionLineReply reply (lines.session_line_with_word words.now word.now) []
+        false) }
 {
     Ok(output_reply(alloc, word_line(alloc, words, word)?))
 }
 
 // Returns the answer to a line that ends the session.
 fn last_reply(alloc: Global) -> LineReply
-    ensures { IsLine result [] [] true }
+    ensures { IsSessionLineReply result [] [] true }
 {
     LineReply {
         out: no_text(alloc),
@@ -79,11 +81,12 @@ impl Workspace {
         steps: &mut Steps<L>,
     ) -> Result<LineReply, SessionFault>
         requires parts { IsOneSession self.old }
-        ensures said { (m : FileMap) → IsAnswerGiven (spec.from_answer text.now (state_of (session_in self.old) m))
+        ensures said { (m : FileMap)
+            → IsSessionAnswerGiven (spec.pending_from_answer text.now (session_and_files (session_in self.old) m))
             result (session_in self.new) steps.old steps.new }
         ensures done { IfOk result (λ reply. reply.done ≡ false) }
         ensures parts { IsOneSession self.new }
-        ensures calm { FailsOnlyForMemory result }
+        ensures calm { AnswerFailsOnlyForMemory result }
     {
         match evaluate_text(alloc, &self.options, &mut self.table, text, steps)? {
             FromValue::Good(_) => {
@@ -104,12 +107,12 @@ impl Workspace {
         steps: &mut Steps<L>,
     ) -> Result<LineReply, SessionFault>
         requires parts { IsOneSession self.old }
-        ensures said { (m : FileMap) → IsAnswerGiven
-            (spec.blank_answer self.old.pending (state_of (session_in self.old) m))
+        ensures said { (m : FileMap) → IsSessionAnswerGiven
+            (spec.session_blank_answer self.old.pending (session_and_files (session_in self.old) m))
             result (session_in self.new) steps.old steps.new }
         ensures done { IfOk result (λ reply. reply.done ≡ false) }
         ensures parts { IsOneSession self.new }
-        ensures calm { FailsOnlyForMemory result }
+        ensures calm { AnswerFailsOnlyForMemory result }
     {
         let Some(from) = self.pending.take() else {
             return Ok(output_reply(alloc, no_text(alloc)));
@@ -126,12 +129,12 @@ impl Workspace {
         steps: &mut Steps<L>,
     ) -> Result<LineReply, SessionFault>
         requires parts { IsOneSession self.old }
-        ensures said { (m : FileMap) → IsAnswerGiven
-            (spec.conformable_answer self.old.pending (state_of (session_in self.old) m))
+        ensures said { (m : FileMap) → IsSessionAnswerGiven
+            (spec.session_conformable_answer self.old.pending (session_and_files (session_in self.old) m))
             result (session_in self.new) steps.old steps.new }
         ensures done { IfOk result (λ reply. reply.done ≡ false) }
         ensures parts { IsOneSession self.new }
-        ensures calm { FailsOnlyForMemory result }
+        ensures calm { AnswerFailsOnlyForMemory result }
     {
         let Some(from) = self.pending.as_ref() else {
             return self.take_from(alloc, b"?", steps);
@@ -149,12 +152,12 @@ impl Workspace {
         steps: &mut Steps<L>,
     ) -> Result<LineReply, SessionFault>
         requires parts { IsOneSession self.old }
-        ensures said { (m : FileMap) → IsAnswerGiven
-            (spec.expression_answer self.old.pending text.now (state_of (session_in self.old) m))
+        ensures said { (m : FileMap) → IsSessionAnswerGiven
+            (spec.session_expression_answer self.old.pending text.now (session_and_files (session_in self.old) m))
             result (session_in self.new) steps.old steps.new }
         ensures done { IfOk result (λ reply. reply.done ≡ false) }
         ensures parts { IsOneSession self.new }
-        ensures calm { FailsOnlyForMemory result }
+        ensures calm { AnswerFailsOnlyForMemory result }
     {
         let Some(from) = self.pending.take() else {
             return self.take_from(alloc, text, steps);
@@ -165,7 +168,7 @@ impl Workspace {
     }
 
     // Answers a command that needs no file.
-    #[tactic(auto, unfolding(crate::specs::Steps::answer_to))]
+    #[tactic(auto, unfolding(crate::specs::Steps::session_answer_to))]
     fn perform<L: Ledger>(
         &mut self,
         alloc: Global,
@@ -173,13 +176,14 @@ impl Workspace {
         steps: &mut Steps<L>,
     ) -> Result<LineReply, SessionFault>
         requires parts { IsOneSession self.old }
-        requires no_file { commands.names_file (seen_command command) ≡ false }
-        ensures said { (m : FileMap) → IsAnswerGiven
-            (spec.answer_to (state_of (session_in self.old) m) (seen_command command.entry))
+        requires no_file { commands.session_command_names_file (session_command_view command) ≡ false }
+        ensures said { (m : FileMap) → IsSessionAnswerGiven
+            (spec.session_answer_to (session_and_files (session_in self.old) m) (session_command_view command.entry))
             result (session_in self.new) steps.old steps.new }
-        ensures done { IfOk result (λ reply. reply.done ≡ commands.is_quit (seen_command command.entry)) }
+        ensures done { IfOk result
+            (λ reply. reply.done ≡ commands.is_session_quit (session_command_view command.entry)) }
         ensures parts { IsOneSession self.new }
-        ensures calm { FailsOnlyForMemory result }
+        ensures calm { AnswerFailsOnlyForMemory result }
     {
         match command {
             Command::Blank => self.answer_blank(alloc, steps),
@@ -204,23 +208,24 @@ impl Workspace {
 }
 
 // Stores the text of the deck in a file.
-#[tactic(auto, unfolding(crate::specs::Steps::answer_to))]
+#[tactic(auto, unfolding(crate::specs::Steps::session_answer_to))]
 fn save<F: Files>(
     alloc: Global,
     deck: &Deck,
     name: &[u8],
     files: &mut F,
 ) -> Result<LineReply, SessionFault>
-    ensures line { IfOk result (λ reply. IsLine reply (save_reply_text (saved_file deck.now) name.now) [] false) }
+    ensures line { IfOk result
+        (λ reply. IsSessionLineReply reply (session_save_reply (saved_file deck.now) name.now) [] false) }
     ensures saved { OnOk result ((m : FileMap) → F.files files.old ≡ Some m →
-        F.files files.new ≡ Some (files_saved (saved_file deck.now) name.now m)) }
-    ensures failed { SaveKeeps name.now result (F.files files.old) (F.files files.new) }
+        F.files files.new ≡ Some (files_after_session_save (saved_file deck.now) name.now m)) }
+    ensures failed { SessionSaveKeepsFiles name.now result (F.files files.old) (F.files files.new) }
     ensures untold { F.files files.old ≡ None → F.files files.new ≡ None }
     ensures fetches { F.faults files.new ≡ F.faults files.old }
     ensures later { F.store_faults files.old ≤ F.store_faults files.new }
     ensures unread { IsErrOf result SessionFault.ReadFailed → ⊥ }
     ensures cause { IsErrOf result SessionFault.WriteFailed →
-        CountRose (F.store_faults files.old) (F.store_faults files.new) }
+        HasIoCountRisen (F.store_faults files.old) (F.store_faults files.new) }
 {
     match save_text(alloc, deck) {
         Ok(text) => {
@@ -242,13 +247,13 @@ fn store<F: Files>(
     requires { length bytes.now ≤ longest_file }
     ensures told { OnOk result ((m : FileMap) → F.files files.old ≡ Some m →
         F.files files.new ≡ Some (with_file m name.now bytes.now)) }
-    ensures failed { SaveKeeps name.now result (F.files files.old) (F.files files.new) }
+    ensures failed { SessionSaveKeepsFiles name.now result (F.files files.old) (F.files files.new) }
     ensures untold { F.files files.old ≡ None → F.files files.new ≡ None }
     ensures fetches { F.faults files.new ≡ F.faults files.old }
     ensures later { F.store_faults files.old ≤ F.store_faults files.new }
     ensures unread { IsErrOf result SessionFault.ReadFailed → ⊥ }
     ensures cause { IsErrOf result SessionFault.WriteFailed →
-        CountRose (F.store_faults files.old) (F.store_faults files.new) }
+        HasIoCountRisen (F.store_faults files.old) (F.store_faults files.new) }
 {
     match files.store(alloc, name, bytes) {
         Ok(()) => Ok(()),
@@ -269,15 +274,21 @@ impl Session {
         files: &mut F,
         steps: &mut Steps<L>,
     ) -> Result<LineReply, SessionFault>
-        requires { length line.now ≤ longest_line }
-        ensures answer { IsAnswerTo (commands.command_of line.now) result
-            (scene_of self.old (F.files files.old) steps.old) (scene_of self.new (F.files files.new) steps.new) }
-        ensures done { IfOk result (λ reply. reply.done ≡ commands.is_quit (commands.command_of line.now)) }
-        ensures faults { AreCounted result (file_faults (F.faults files.old) (F.store_faults files.old))
-            (file_faults (F.faults files.new) (F.store_faults files.new)) }
-        ensures kept { LineKeeps (commands.saved_in line.now) result (F.files files.old) (F.files files.new) }
-        ensures stores { commands.saved_in line.now ≡ None → F.store_faults files.new ≡ F.store_faults files.old }
-        ensures unasked { commands.names_file (commands.command_of line.now) ≡ false → files.new ≡ files.old }
+        requires { length line.now ≤ longest_session_line }
+        ensures answer { IsSessionAnswerTo (commands.session_command_of_line line.now) result
+            (session_scene self.old (F.files files.old) steps.old)
+            (session_scene self.new (F.files files.new) steps.new) }
+        ensures done { IfOk result
+            (λ reply. reply.done ≡ commands.is_session_quit (commands.session_command_of_line line.now)) }
+        ensures faults { AreSessionFileFaultsCounted result
+            (session_file_faults (F.faults files.old) (F.store_faults files.old))
+            (session_file_faults (F.faults files.new) (F.store_faults files.new)) }
+        ensures kept { SessionLineKeepsFiles (commands.session_line_save_name line.now) result (F.files files.old)
+            (F.files files.new) }
+        ensures stores { commands.session_line_save_name line.now ≡ None → F.store_faults files.new
+            ≡ F.store_faults files.old }
+        ensures unasked { commands.session_command_names_file (commands.session_command_of_line line.now) ≡ false
+            → files.new ≡ files.old }
     {
         match read_command(line) {
             Command::Load(name) => self.workspace.load(alloc, name, files, steps),

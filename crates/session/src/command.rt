@@ -3,7 +3,7 @@
 ghost use Rattle.std.specs.Prelude.{◌≡◌};
 ghost use Rattle.def_entry.specs.Cuts as cuts;
 ghost use Rattle.session.specs.Commands as spec;
-ghost use Rattle.session.specs.CommandViews.{seen_command};
+ghost use Rattle.session.specs.CommandViews.{session_command_view};
 
 use crate::colon_word::{ColonWord, colon_word_of};
 use def_entry::cut_at;
@@ -59,15 +59,15 @@ pub enum Command<'a> {
 
 /// Returns the command that a line gives.
 pub fn read_command(line: &[u8]) -> Command<'_>
-    ensures { seen_command result ≡ spec.command_of line.now }
+    ensures { session_command_view result ≡ spec.session_command_of_line line.now }
 {
     command_in_text(line_content(line))
 }
 
 // Returns the command that the text of a line gives.
-#[tactic(auto, unfolding(crate::specs::Commands::command_in))]
+#[tactic(auto, unfolding(crate::specs::Commands::session_command_in_text))]
 fn command_in_text(text: &[u8]) -> Command<'_>
-    ensures { seen_command result ≡ spec.command_in text.now }
+    ensures { session_command_view result ≡ spec.session_command_in_text text.now }
 {
     let Some((first, _)) = text.split_first() else {
         return Command::Blank;
@@ -90,7 +90,7 @@ fn command_in_text(text: &[u8]) -> Command<'_>
 
 // `search` with a text; without one it is an expression.
 fn search_command<'a>(rest: &'a [u8], text: &'a [u8]) -> Command<'a>
-    ensures { seen_command result ≡ spec.search_command rest.now text.now }
+    ensures { session_command_view result ≡ spec.session_search_command rest.now text.now }
 {
     if rest.is_empty() {
         Command::Expression(text)
@@ -102,7 +102,7 @@ fn search_command<'a>(rest: &'a [u8], text: &'a [u8]) -> Command<'a>
 // Returns the command of a word that begins with a colon and the rest of its line.
 #[tactic(auto, unfolding(crate::specs::Commands::colon_command))]
 fn command_by_word<'a>(word: &'a [u8], rest: &'a [u8]) -> Command<'a>
-    ensures { seen_command result ≡ spec.colon_command word.now rest.now }
+    ensures { session_command_view result ≡ spec.colon_command word.now rest.now }
 {
     match colon_word_of(word) {
         Some(asked) => command_of_word(asked, rest, word),
@@ -112,7 +112,7 @@ fn command_by_word<'a>(word: &'a [u8], rest: &'a [u8]) -> Command<'a>
 
 // Returns the command of a command word and the rest of its line.
 fn command_of_word<'a>(asked: ColonWord, rest: &'a [u8], word: &'a [u8]) -> Command<'a>
-    ensures { seen_command result ≡ spec.with_rest asked rest.now word.now }
+    ensures { session_command_view result ≡ spec.colon_command_with_rest asked rest.now word.now }
 {
     match asked {
         ColonWord::Define => with_text(Command::Edit(DeckEdit::Define(rest)), rest, word),
@@ -131,7 +131,7 @@ fn command_of_word<'a>(asked: ColonWord, rest: &'a [u8], word: &'a [u8]) -> Comm
 
 // Reads a name, followed by a value.
 fn set_command<'a>(rest: &'a [u8], word: &'a [u8]) -> Command<'a>
-    ensures { seen_command result ≡ spec.set_command rest.now word.now }
+    ensures { session_command_view result ≡ spec.session_set_command rest.now word.now }
 {
     let (name, value) = split_word(rest);
     where_good(
@@ -143,7 +143,7 @@ fn set_command<'a>(rest: &'a [u8], word: &'a [u8]) -> Command<'a>
 
 // Reads FROM and TO, before and after the first `;`. Neither may be blank, and TO may not be `?`.
 fn watch_command<'a>(rest: &'a [u8], word: &'a [u8]) -> Command<'a>
-    ensures { seen_command result ≡ spec.watch_parts (cuts.cut_at 59 rest.now) word.now }
+    ensures { session_command_view result ≡ spec.session_watch_of_parts (cuts.cut_at 59 rest.now) word.now }
 {
     match cut_at(rest, b';') {
         Some((from, to)) => watch_sides(trim(from), trim(to), word),
@@ -153,7 +153,7 @@ fn watch_command<'a>(rest: &'a [u8], word: &'a [u8]) -> Command<'a>
 
 // Returns the watch of FROM and TO. Neither may be blank, and TO may not be `?`.
 fn watch_sides<'a>(from: &'a [u8], to: &'a [u8], word: &'a [u8]) -> Command<'a>
-    ensures { seen_command result ≡ spec.watch_sides from.now to.now word.now }
+    ensures { session_command_view result ≡ spec.session_watch_of_sides from.now to.now word.now }
 {
     if from.is_empty() || to.is_empty() || to == b"?".as_slice() {
         return Command::Bad(word);
@@ -163,21 +163,24 @@ fn watch_sides<'a>(from: &'a [u8], to: &'a [u8], word: &'a [u8]) -> Command<'a>
 
 // Returns a command that needs a text after its word.
 fn with_text<'a>(command: Command<'a>, rest: &'a [u8], word: &'a [u8]) -> Command<'a>
-    ensures { seen_command result ≡ spec.with_text (seen_command command.entry) rest.now word.now }
+    ensures { session_command_view result
+        ≡ spec.session_command_with_text (session_command_view command.entry) rest.now word.now }
 {
     where_good(!rest.is_empty(), command, word)
 }
 
 // Returns a command that must have nothing after its word.
 fn alone<'a>(command: Command<'a>, rest: &'a [u8], word: &'a [u8]) -> Command<'a>
-    ensures { seen_command result ≡ spec.without_rest (seen_command command.entry) rest.now word.now }
+    ensures { session_command_view result
+        ≡ spec.session_command_without_rest (session_command_view command.entry) rest.now word.now }
 {
     where_good(rest.is_empty(), command, word)
 }
 
 // Returns a command if its arguments are good, or else `Bad` with its word.
 fn where_good<'a>(good: bool, command: Command<'a>, word: &'a [u8]) -> Command<'a>
-    ensures { seen_command result ≡ spec.where_good good (seen_command command.entry) word.now }
+    ensures { session_command_view result
+        ≡ spec.session_command_if_good good (session_command_view command.entry) word.now }
 {
     if good { command } else { Command::Bad(word) }
 }

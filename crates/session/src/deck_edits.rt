@@ -1,19 +1,20 @@
 //! Edits of the deck of a session, and the lines that report refused edits.
 
 ghost use Rattle.std.specs.Prelude.{◌≡◌, ◌↔◌, [], codes, Ok, Some, option_map, true, IfOk, IsErrOf};
-ghost use Rattle.def_entry.specs.Keys.{key_of};
-ghost use Rattle.def_lines.specs.Blanks.{trim_of};
+ghost use Rattle.def_entry.specs.Keys.{key_of_spelling};
+ghost use Rattle.def_lines.specs.Blanks.{trimmed_of_blanks};
 ghost use Rattle.deck.specs.Edits as deck_edit;
 ghost use Rattle.deck.specs.declared.fault.DeckFault.TheVariants as deck_fault;
 ghost use Rattle.edit_history.specs.Histories.{IsHistoryOf};
-ghost use Rattle.edit_history.specs.Timelines.{redone, undone};
-ghost use Rattle.session.specs.AnswerEffects.{FailsOnlyForMemory};
-ghost use Rattle.session.specs.EditResults.{drop_result, edit_result, edited_by, turn_result};
+ghost use Rattle.edit_history.specs.Timelines.{redone_timeline, undone_timeline};
+ghost use Rattle.session.specs.AnswerEffects.{AnswerFailsOnlyForMemory};
+ghost use Rattle.session.specs.EditResults.{session_drop_result, session_edit_result, session_result_of_edit};
+ghost use Rattle.session.specs.EditResults.{session_undo_redo_result};
 ghost use Rattle.session.specs.DeckEdits as spec;
 ghost use Rattle.session.specs.Lines as lines;
-ghost use Rattle.session.specs.Parts.{IsEdited};
-ghost use Rattle.session.specs.CommandViews.{seen_edit};
-ghost use Rattle.session.specs.Versions.{table_with_versions, timeline_of};
+ghost use Rattle.session.specs.Parts.{IsSessionEditAnswered};
+ghost use Rattle.session.specs.CommandViews.{session_edit_view};
+ghost use Rattle.session.specs.Versions.{session_table_with_versions, session_timeline};
 
 use crate::command::DeckEdit;
 use crate::fault::SessionFault;
@@ -42,10 +43,11 @@ pub(crate) fn make_edit(
     edit: DeckEdit<'_>,
 ) -> Result<EditResult, SessionFault>
     requires { IsHistoryOf history.old table.old.deck }
-    ensures edit { IsEdited (edited_by (seen_edit edit.entry) (table_with_versions table.old history.old))
-        result (table_with_versions table.old history.old) (table_with_versions table.new history.new) }
+    ensures edit { IsSessionEditAnswered
+        (session_result_of_edit (session_edit_view edit.entry) (session_table_with_versions table.old history.old))
+        result (session_table_with_versions table.old history.old) (session_table_with_versions table.new history.new) }
     ensures follows { IsHistoryOf history.new table.new.deck }
-    ensures calm { FailsOnlyForMemory result }
+    ensures calm { AnswerFailsOnlyForMemory result }
 {
     match edit {
         DeckEdit::Define(line) => define(alloc, table, history, line),
@@ -65,11 +67,12 @@ fn define(
     line: &[u8],
 ) -> Result<EditResult, SessionFault>
     requires { IsHistoryOf history.old table.old.deck }
-    ensures edit { let was = table_with_versions table.old history.old in
-        IsEdited (edit_result (deck_edit.after_define (trim_of line.now) table.old.deck) [] was)
-        result was (table_with_versions table.new history.new) }
+    ensures edit { let was = session_table_with_versions table.old history.old in
+        IsSessionEditAnswered (session_edit_result
+        (deck_edit.deck_after_defining (trimmed_of_blanks line.now) table.old.deck) [] was)
+        result was (session_table_with_versions table.new history.new) }
     ensures follows { IsHistoryOf history.new table.new.deck }
-    ensures calm { FailsOnlyForMemory result }
+    ensures calm { AnswerFailsOnlyForMemory result }
 {
     entry_memory_law();
     histories_are_timelines();
@@ -87,10 +90,11 @@ fn drop_by_text(
     text: &[u8],
 ) -> Result<EditResult, SessionFault>
     requires { IsHistoryOf history.old table.old.deck }
-    ensures edit { IsEdited (drop_result (key_of text.now) text.now (table_with_versions table.old history.old))
-        result (table_with_versions table.old history.old) (table_with_versions table.new history.new) }
+    ensures edit { IsSessionEditAnswered
+        (session_drop_result (key_of_spelling text.now) text.now (session_table_with_versions table.old history.old))
+        result (session_table_with_versions table.old history.old) (session_table_with_versions table.new history.new) }
     ensures follows { IsHistoryOf history.new table.new.deck }
-    ensures calm { FailsOnlyForMemory result }
+    ensures calm { AnswerFailsOnlyForMemory result }
 {
     match read_key(alloc, text) {
         Ok(key) => drop_last(alloc, table, history, &key, text),
@@ -111,11 +115,11 @@ fn drop_last(
     text: &[u8],
 ) -> Result<EditResult, SessionFault>
     requires { IsHistoryOf history.old table.old.deck }
-    ensures edit { let was = table_with_versions table.old history.old in
-        IsEdited (edit_result (deck_edit.after_drop key.now table.old.deck) text.now was)
-        result was (table_with_versions table.new history.new) }
+    ensures edit { let was = session_table_with_versions table.old history.old in
+        IsSessionEditAnswered (session_edit_result (deck_edit.deck_after_dropping key.now table.old.deck) text.now was)
+        result was (session_table_with_versions table.new history.new) }
     ensures follows { IsHistoryOf history.new table.new.deck }
-    ensures calm { FailsOnlyForMemory result }
+    ensures calm { AnswerFailsOnlyForMemory result }
 {
     histories_are_timelines();
     match history.drop_last(alloc, table, key) {
@@ -133,12 +137,12 @@ fn set_variable(
     value: &[u8],
 ) -> Result<EditResult, SessionFault>
     requires { IsHistoryOf history.old table.old.deck }
-    ensures edit { let was = table_with_versions table.old history.old in
-        IsEdited (edit_result (Ok (deck_edit.after_switch
-        (spec.with_variable table.old.deck.settings name.now value.now) table.old.deck)) [] was)
-        result was (table_with_versions table.new history.new) }
+    ensures edit { let was = session_table_with_versions table.old history.old in
+        IsSessionEditAnswered (session_edit_result (Ok (deck_edit.deck_after_switching
+        (spec.settings_with_variable table.old.deck.settings name.now value.now) table.old.deck)) [] was)
+        result was (session_table_with_versions table.new history.new) }
     ensures follows { IsHistoryOf history.new table.new.deck }
-    ensures calm { FailsOnlyForMemory result }
+    ensures calm { AnswerFailsOnlyForMemory result }
 {
     histories_are_timelines();
     match history.set(alloc, table, name, value) {
@@ -155,12 +159,12 @@ fn set_locale(
     locale: &[u8],
 ) -> Result<EditResult, SessionFault>
     requires { IsHistoryOf history.old table.old.deck }
-    ensures edit { let was = table_with_versions table.old history.old in
-        IsEdited (edit_result (Ok (deck_edit.after_switch
-        (spec.with_locale table.old.deck.settings locale.now) table.old.deck)) [] was)
-        result was (table_with_versions table.new history.new) }
+    ensures edit { let was = session_table_with_versions table.old history.old in
+        IsSessionEditAnswered (session_edit_result (Ok (deck_edit.deck_after_switching
+        (spec.settings_with_locale table.old.deck.settings locale.now) table.old.deck)) [] was)
+        result was (session_table_with_versions table.new history.new) }
     ensures follows { IsHistoryOf history.new table.new.deck }
-    ensures calm { FailsOnlyForMemory result }
+    ensures calm { AnswerFailsOnlyForMemory result }
 {
     histories_are_timelines();
     match history.set_locale(alloc, table, locale) {
@@ -176,12 +180,12 @@ fn undo(
     history: &mut History,
 ) -> Result<EditResult, SessionFault>
     requires { IsHistoryOf history.old table.old.deck }
-    ensures edit { let was = table_with_versions table.old history.old in
-        IsEdited (turn_result (undone (timeline_of was.table.deck was.versions))
+    ensures edit { let was = session_table_with_versions table.old history.old in
+        IsSessionEditAnswered (session_undo_redo_result (undone_timeline (session_timeline was.table.deck was.versions))
         (codes "nothing to undo") was.table.deck)
-        result was (table_with_versions table.new history.new) }
+        result was (session_table_with_versions table.new history.new) }
     ensures follows { IsHistoryOf history.new table.new.deck }
-    ensures calm { FailsOnlyForMemory result }
+    ensures calm { AnswerFailsOnlyForMemory result }
 {
     histories_are_timelines();
     match history.undo(alloc, table) {
@@ -197,12 +201,12 @@ fn redo(
     history: &mut History,
 ) -> Result<EditResult, SessionFault>
     requires { IsHistoryOf history.old table.old.deck }
-    ensures edit { let was = table_with_versions table.old history.old in
-        IsEdited (turn_result (redone (timeline_of was.table.deck was.versions))
+    ensures edit { let was = session_table_with_versions table.old history.old in
+        IsSessionEditAnswered (session_undo_redo_result (redone_timeline (session_timeline was.table.deck was.versions))
         (codes "nothing to redo") was.table.deck)
-        result was (table_with_versions table.new history.new) }
+        result was (session_table_with_versions table.new history.new) }
     ensures follows { IsHistoryOf history.new table.new.deck }
-    ensures calm { FailsOnlyForMemory result }
+    ensures calm { AnswerFailsOnlyForMemory result }
 {
     histories_are_timelines();
     match history.redo(alloc, table) {
@@ -213,8 +217,9 @@ fn redo(
 
 // Returns the line that says that there is nothing to undo or to redo.
 fn nothing_line(alloc: Global, fault: HistoryFault) -> Result<Text, SessionFault>
-    ensures line { IfOk result (λ line. Some line ≡ option_map lines.line_of (spec.no_edit_reason fault)) }
-    ensures calm { FailsOnlyForMemory result }
+    ensures line { IfOk result
+        (λ line. Some line ≡ option_map lines.session_line_of_text (spec.session_undo_refusal_text fault)) }
+    ensures calm { AnswerFailsOnlyForMemory result }
 {
     match fault {
         HistoryFault::NothingToUndo => Ok(Text::from_bytes(alloc, b"nothing to undo\n")?),
@@ -229,9 +234,9 @@ pub(crate) fn refusal_line(
     fault: DeckFault,
     named: &[u8],
 ) -> Result<Text, SessionFault>
-    requires { spec.is_refused_by_line fault ≡ true }
-    ensures line { IfOk result (λ line. line ≡ lines.line_of (spec.refusal_text fault named.now)) }
-    ensures told { IfOk result (λ _. spec.is_refusal fault ≡ true) }
+    requires { spec.is_session_line_refusal fault ≡ true }
+    ensures line { IfOk result (λ line. line ≡ lines.session_line_of_text (spec.session_refusal_text fault named.now)) }
+    ensures told { IfOk result (λ _. spec.is_session_refusal fault ≡ true) }
     ensures read { IsErrOf result SessionFault.ReadFailed ↔ (fault ≡ deck_fault.ReadFailed) }
     ensures unwritten { IsErrOf result SessionFault.WriteFailed → ⊥ }
 {

@@ -2,16 +2,16 @@
 
 ghost use Rattle.std.specs.Prelude.{◌≡◌, Some, IfOk, IsErrOf, [], false};
 ghost use Rattle.units_io.specs.FileMap.{FileMap};
-ghost use Rattle.units_io.specs.Faults.{CountRose};
-ghost use Rattle.session.specs.AnswerEffects.{FailsOnlyForMemory, faults_after};
-ghost use Rattle.session.specs.Answers.{edit_answer};
+ghost use Rattle.units_io.specs.Faults.{HasIoCountRisen};
+ghost use Rattle.session.specs.AnswerEffects.{AnswerFailsOnlyForMemory, fetch_faults_after_answer};
+ghost use Rattle.session.specs.Answers.{session_edit_answer};
 ghost use Rattle.session.specs.Commands as commands;
-ghost use Rattle.session.specs.EditResults.{edited_by};
-ghost use Rattle.session.specs.Parts.{IsAnswerGiven};
-ghost use Rattle.session.specs.CommandViews.{seen_edit};
-ghost use Rattle.session.specs.Sessions.{IsOneSession, session_in, state_of};
+ghost use Rattle.session.specs.EditResults.{session_result_of_edit};
+ghost use Rattle.session.specs.Parts.{IsSessionAnswerGiven};
+ghost use Rattle.session.specs.CommandViews.{session_edit_view};
+ghost use Rattle.session.specs.Sessions.{IsOneSession, session_and_files, session_in};
 ghost use Rattle.session.specs.Steps as spec;
-ghost use Rattle.session.specs.Versions.{table_with_versions};
+ghost use Rattle.session.specs.Versions.{session_table_with_versions};
 
 use crate::answer::{LineReply, output_reply};
 use crate::command::DeckEdit;
@@ -35,13 +35,14 @@ impl Workspace {
         steps: &mut Steps<L>,
     ) -> Result<LineReply, SessionFault>
         requires parts { IsOneSession self.old }
-        ensures said { (m : FileMap) → IsAnswerGiven
-            (edit_answer (edited_by (seen_edit change.entry) (table_with_versions self.old.table self.old.history)) []
-            (state_of (session_in self.old) m))
+        ensures said { (m : FileMap) → IsSessionAnswerGiven
+            (session_edit_answer (session_result_of_edit (session_edit_view change.entry)
+            (session_table_with_versions self.old.table self.old.history)) []
+            (session_and_files (session_in self.old) m))
             result (session_in self.new) steps.old steps.new }
         ensures done { IfOk result (λ reply. reply.done ≡ false) }
         ensures parts { IsOneSession self.new }
-        ensures calm { FailsOnlyForMemory result }
+        ensures calm { AnswerFailsOnlyForMemory result }
     {
         match make_edit(alloc, &mut self.table, &mut self.history, change)? {
             EditResult::Made => {
@@ -69,14 +70,15 @@ impl Workspace {
     ) -> Result<LineReply, SessionFault>
         requires parts { IsOneSession self.old }
         ensures said { (m : FileMap) → F.files files.old ≡ Some m
-            → IsAnswerGiven (spec.answer_to (state_of (session_in self.old) m) (commands.Load name.now))
-            result (session_in self.new) steps.old steps.new }
+            → IsSessionAnswerGiven (spec.session_answer_to (session_and_files (session_in self.old) m)
+            (commands.Load name.now)) result (session_in self.new) steps.old steps.new }
         ensures done { IfOk result (λ reply. reply.done ≡ false) }
         ensures parts { IsOneSession self.new }
         ensures kept { F.files files.new ≡ F.files files.old }
         ensures stores { F.store_faults files.new ≡ F.store_faults files.old }
-        ensures counted { F.faults files.new ≡ faults_after (F.faults files.old) result }
-        ensures cause { IsErrOf result SessionFault.ReadFailed → CountRose (F.faults files.old) (F.faults files.new) }
+        ensures counted { F.faults files.new ≡ fetch_faults_after_answer (F.faults files.old) result }
+        ensures cause { IsErrOf result SessionFault.ReadFailed
+            → HasIoCountRisen (F.faults files.old) (F.faults files.new) }
         ensures unwritten { IsErrOf result SessionFault.WriteFailed → ⊥ }
     {
         histories_are_timelines();

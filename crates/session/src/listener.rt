@@ -3,14 +3,16 @@
 ghost use Rattle.std.specs.Prelude.{◌≡◌, ◌++◌, ◌∷◌, ◌≤◌, ◌<◌, List, ℕ, Some, [], length, IfOk, IfSome, MatchResult};
 ghost use Rattle.std.specs.Prelude.{false};
 ghost use Rattle.std.specs.Option.{option_copied};
-ghost use Rattle.session.specs.AnswerEffects.{AreCounted, file_faults};
-ghost use Rattle.session.specs.HeardLines.{NamesNoFile, any_loads_file, heard, is_last, loads_file_in, longest_line};
-ghost use Rattle.session.specs.HeardLines.{names_file_in, readable};
-ghost use Rattle.session.specs.Input.{lines_of};
-ghost use Rattle.session.specs.SessionProgress.{Base, Fed, Holds, IsAt, IsBroken, IsTakenUp, Stands, now_of};
+ghost use Rattle.session.specs.AnswerEffects.{AreSessionFileFaultsCounted, session_file_faults};
+ghost use Rattle.session.specs.HeardLines.{HeardInputNamesNoFile, heard_input_loads_file, heard_line_loads_file};
+ghost use Rattle.session.specs.HeardLines.{heard_lines, is_last_session_line, longest_session_line};
+ghost use Rattle.session.specs.HeardLines.{heard_line_names_file, readable_session_line};
+ghost use Rattle.session.specs.Input.{input_lines};
+ghost use Rattle.session.specs.SessionProgress.{HoldsInputRest, IsAtPointOfTalk, IsInputTakenUp, IsTalkAtWholeLines};
+ghost use Rattle.session.specs.SessionProgress.{IsTalkBroken, IsTalkFed, SessionBase, session_now_of};
 ghost use Rattle.session.specs.Steps as spec;
-ghost use Rattle.session.specs.Talks.{SessionTrace, talk_with_answer, trace_on};
-ghost use Rattle.session.specs.KnownContents.{IsToldIf};
+ghost use Rattle.session.specs.Talks.{SessionTrace, talk_over_input, talk_with_answer};
+ghost use Rattle.session.specs.KnownContents.{IsSessionValueKnownIfNeeded};
 
 use crate::fault::SessionFault;
 use crate::partial_line::{Held, LONGEST_LINE};
@@ -53,18 +55,19 @@ impl Listener {
         steps: &mut Steps<L>,
         rest: &mut &[u8],
     ) -> Result<bool, SessionFault>
-        ensures told { (base : Base) (first : SessionTrace) (taken more : List ℕ) →
-            IsToldIf (any_loads_file ((taken ++ rest.old.now) ++ more)) base.files →
-            Stands base first taken self.old.held
-            (now_of self.old.talk.said self.old.talk.session (F.files files.old) steps.old) →
-            Fed result base first taken rest.old.now rest.new.now more self.new.held
-            (now_of self.new.talk.said self.new.talk.session (F.files files.new) steps.new) }
-        ensures faults { AreCounted result (file_faults (F.faults files.old) (F.store_faults files.old))
-            (file_faults (F.faults files.new) (F.store_faults files.new)) }
-        ensures cut { (taken : List ℕ) → Holds taken self.old.held →
-            IsTakenUp result taken rest.old.now rest.new.now self.new.held }
-        ensures unasked { (taken more : List ℕ) → Holds taken self.old.held →
-            NamesNoFile ((taken ++ rest.old.now) ++ more) → files.new ≡ files.old }
+        ensures told { (base : SessionBase) (first : SessionTrace) (taken more : List ℕ) →
+            IsSessionValueKnownIfNeeded (heard_input_loads_file ((taken ++ rest.old.now) ++ more)) base.files →
+            IsTalkAtWholeLines base first taken self.old.held
+            (session_now_of self.old.talk.said self.old.talk.session (F.files files.old) steps.old) →
+            IsTalkFed result base first taken rest.old.now rest.new.now more self.new.held
+            (session_now_of self.new.talk.said self.new.talk.session (F.files files.new) steps.new) }
+        ensures faults { AreSessionFileFaultsCounted result
+            (session_file_faults (F.faults files.old) (F.store_faults files.old))
+            (session_file_faults (F.faults files.new) (F.store_faults files.new)) }
+        ensures cut { (taken : List ℕ) → HoldsInputRest taken self.old.held →
+            IsInputTakenUp result taken rest.old.now rest.new.now self.new.held }
+        ensures unasked { (taken more : List ℕ) → HoldsInputRest taken self.old.held →
+            HeardInputNamesNoFile ((taken ++ rest.old.now) ++ more) → files.new ≡ files.old }
         ensures shorter { 0 < length rest.old.now → length rest.new.now < length rest.old.now }
     {
         while let Some((piece, behind)) = cut_at(*rest, b'\n') {
@@ -92,17 +95,20 @@ impl Listener {
         files: &mut F,
         steps: &mut Steps<L>,
     ) -> Result<(), SessionFault>
-        ensures told { (base : Base) (first : SessionTrace) (input : List ℕ) →
-            IsToldIf (any_loads_file input) base.files → Stands base first input self.old.held
-            (now_of self.old.talk.said self.old.talk.session (F.files files.old) steps.old) →
+        ensures told { (base : SessionBase) (first : SessionTrace) (input : List ℕ) →
+            IsSessionValueKnownIfNeeded (heard_input_loads_file input) base.files
+            → IsTalkAtWholeLines base first input self.old.held
+            (session_now_of self.old.talk.said self.old.talk.session (F.files files.old) steps.old) →
             MatchResult result
-            (λ _. IsAt base (trace_on first input)
-            (now_of self.new.talk.said self.new.talk.session (F.files files.new) steps.new))
-            (λ fault. IsBroken fault base first (heard (lines_of input))
-            (now_of self.new.talk.said self.new.talk.session (F.files files.new) steps.new)) }
-        ensures faults { AreCounted result (file_faults (F.faults files.old) (F.store_faults files.old))
-            (file_faults (F.faults files.new) (F.store_faults files.new)) }
-        ensures unasked { (input : List ℕ) → Holds input self.old.held → NamesNoFile input → files.new ≡ files.old }
+            (λ _. IsAtPointOfTalk base (talk_over_input first input)
+            (session_now_of self.new.talk.said self.new.talk.session (F.files files.new) steps.new))
+            (λ fault. IsTalkBroken fault base first (heard_lines (input_lines input))
+            (session_now_of self.new.talk.said self.new.talk.session (F.files files.new) steps.new)) }
+        ensures faults { AreSessionFileFaultsCounted result
+            (session_file_faults (F.faults files.old) (F.store_faults files.old))
+            (session_file_faults (F.faults files.new) (F.store_faults files.new)) }
+        ensures unasked { (input : List ℕ) → HoldsInputRest input self.old.held → HeardInputNamesNoFile input
+            → files.new ≡ files.old }
     {
         if self.held.is_empty() {
             return Ok(());
@@ -120,21 +126,25 @@ impl Listener {
         steps: &mut Steps<L>,
         piece: &[u8],
     ) -> Result<bool, SessionFault>
-        ensures told { (base : Base) (talk : SessionTrace) (part : List ℕ) → self.old.held ≡ readable part →
-            IsToldIf (loads_file_in (part ++ piece.now)) base.files → IsAt base talk
-            (now_of self.old.talk.said self.old.talk.session (F.files files.old) steps.old) →
+        ensures told { (base : SessionBase) (talk : SessionTrace) (part : List ℕ) → self.old.held
+            ≡ readable_session_line part →
+            IsSessionValueKnownIfNeeded (heard_line_loads_file (part ++ piece.now)) base.files
+            → IsAtPointOfTalk base talk
+            (session_now_of self.old.talk.said self.old.talk.session (F.files files.old) steps.old) →
             MatchResult result
-            (λ done. (done ≡ is_last (part ++ piece.now)) × (self.new.held ≡ Some [])
-            × IsAt base (talk_with_answer talk (spec.line_answer talk.state (part ++ piece.now)) (part ++ piece.now))
-            (now_of self.new.talk.said self.new.talk.session (F.files files.new) steps.new))
-            (λ fault. IsBroken fault base talk ((part ++ piece.now) ∷ [])
-            (now_of self.new.talk.said self.new.talk.session (F.files files.new) steps.new)) }
-        ensures faults { AreCounted result (file_faults (F.faults files.old) (F.store_faults files.old))
-            (file_faults (F.faults files.new) (F.store_faults files.new)) }
-        ensures last { (part : List ℕ) → self.old.held ≡ readable part →
-            IfOk result (λ done. (done ≡ is_last (part ++ piece.now)) × (self.new.held ≡ Some [])) }
-        ensures unasked { (part : List ℕ) → self.old.held ≡ readable part →
-            names_file_in (part ++ piece.now) ≡ false → files.new ≡ files.old }
+            (λ done. (done ≡ is_last_session_line (part ++ piece.now)) × (self.new.held ≡ Some [])
+            × IsAtPointOfTalk base (talk_with_answer talk (spec.session_line_answer talk.state (part ++ piece.now))
+            (part ++ piece.now))
+            (session_now_of self.new.talk.said self.new.talk.session (F.files files.new) steps.new))
+            (λ fault. IsTalkBroken fault base talk ((part ++ piece.now) ∷ [])
+            (session_now_of self.new.talk.said self.new.talk.session (F.files files.new) steps.new)) }
+        ensures faults { AreSessionFileFaultsCounted result
+            (session_file_faults (F.faults files.old) (F.store_faults files.old))
+            (session_file_faults (F.faults files.new) (F.store_faults files.new)) }
+        ensures last { (part : List ℕ) → self.old.held ≡ readable_session_line part →
+            IfOk result (λ done. (done ≡ is_last_session_line (part ++ piece.now)) × (self.new.held ≡ Some [])) }
+        ensures unasked { (part : List ℕ) → self.old.held ≡ readable_session_line part →
+            heard_line_names_file (part ++ piece.now) ≡ false → files.new ≡ files.old }
     {
         if self.held.is_empty() {
             let done = self.talk.reply(self.alloc, short(piece), files, steps);
@@ -152,10 +162,10 @@ impl Listener {
 }
 
 // Returns the line, or `None` if it is too long.
-#[tactic(auto, unfolding(crate::specs::HeardLines::readable))]
+#[tactic(auto, unfolding(crate::specs::HeardLines::readable_session_line))]
 fn short(line: &[u8]) -> Option<&[u8]>
-    ensures is { option_copied result ≡ readable line.now }
-    ensures short { IfSome result (λ line. length line.now ≤ longest_line) }
+    ensures is { option_copied result ≡ readable_session_line line.now }
+    ensures short { IfSome result (λ line. length line.now ≤ longest_session_line) }
 {
     if line.len() > LONGEST_LINE {
         return None;

@@ -1,11 +1,11 @@
 //! A session over a source. The output for a block of input is written in one piece, or in several if it is long.
 
 ghost use Rattle.std.specs.Prelude.{◌≡◌, ◌⊎◌, ◌++◌, [], List, ℕ, Some};
-ghost use Rattle.session.specs.HeardLines.{NamesNoFile};
-ghost use Rattle.session.specs.Outside.{GrowsAtLeast};
+ghost use Rattle.session.specs.HeardLines.{HeardInputNamesNoFile};
+ghost use Rattle.session.specs.Outside.{SessionSinkGrowsAtLeast};
 ghost use Rattle.session.specs.Runs as spec;
-ghost use Rattle.session.specs.SessionProgress.{Holds};
-ghost use Rattle.session.specs.Worlds.{SourceSeen, files_seen, sink_of, source_of, world_of};
+ghost use Rattle.session.specs.SessionProgress.{HoldsInputRest};
+ghost use Rattle.session.specs.Worlds.{SessionSource, session_files_seen, session_sink, session_source, session_world};
 
 use crate::fault::SessionFault;
 use crate::listener::Listener;
@@ -32,17 +32,17 @@ const BLOCK: usize = 65_536;
 const MOST_INPUT: u64 = 4_294_967_296;
 
 impl Listener {
-    /// Writes the opening, and then answers the lines of a source, block by block. The output for a block is written before
-    /// more is read, and as soon as it is long; notices are written before replies.
+    /// Writes the opening, and then answers the lines of a source, block by block. The output for a block is written
+    /// before more is read, and as soon as it is long; notices are written before replies.
     ///
-    /// `run`: `specs/Runs.antt` states everything that holds of a run. If it ends with `Done`, both sinks have everything
-    /// that the session says over its whole input. With any other ending the lines up to some line have been answered: each
-    /// sink has a front of the output for them, and the files are as these lines leave them, except perhaps for one that
-    /// could not be written. If the input is too long or the source failed, these are the complete lines of the bytes read,
-    /// and all of their output is written. Every ending except `Done` and `NoMemory` has its cause. The contents of the
-    /// files need not be known if no line loads one. `unasked`: if no line names a file, the files are not used. `opening`:
-    /// nothing is read from the source before the opening is written. `order`: nothing is written to `out` before the
-    /// notices of the opening.
+    /// `run`: `specs/Runs.antt` states everything that holds of a run. If it ends with `Done`, both sinks have
+    /// everything that the session says over its whole input. With any other ending the lines up to some line have been
+    /// answered: each sink has a front of the output for them, and the files are as these lines leave them, except
+    /// perhaps for one that could not be written. If the input is too long or the source failed, these are the complete
+    /// lines of the bytes read, and all of their output is written. Every ending except `Done` and `NoMemory` has its
+    /// cause. The contents of the files need not be known if no line loads one. `unasked`: if no line names a file, the
+    /// files are not used. `opening`: nothing is read from the source before the opening is written. `order`: nothing
+    /// is written to `out` before the notices of the opening.
     pub fn answer_source<S: Source, O: Sink, E: Sink, F: Files, L: Ledger>(
         &mut self,
         src: &mut S,
@@ -52,18 +52,19 @@ impl Listener {
         steps: &mut Steps<L>,
     ) -> SessionEnd
         ensures run { spec.IsSessionRun self.old.talk.said self.old.talk.session result
-            (world_of (source_of (S.left src.old) (S.taken src.old) (S.faults src.old))
-            (sink_of (O.written out.old) (O.faults out.old)) (sink_of (E.written err.old) (E.faults err.old))
-            (files_seen (F.files files.old) (F.faults files.old) (F.store_faults files.old)) steps.old)
-            (world_of (source_of (S.left src.new) (S.taken src.new) (S.faults src.new))
-            (sink_of (O.written out.new) (O.faults out.new)) (sink_of (E.written err.new) (E.faults err.new))
-            (files_seen (F.files files.new) (F.faults files.new) (F.store_faults files.new)) steps.new) }
-        ensures unasked { (input : List ℕ) → S.left src.old ≡ Some input → NamesNoFile input → files.new ≡ files.old }
+            (session_world (session_source (S.left src.old) (S.taken src.old) (S.faults src.old))
+            (session_sink (O.written out.old) (O.faults out.old)) (session_sink (E.written err.old) (E.faults err.old))
+            (session_files_seen (F.files files.old) (F.faults files.old) (F.store_faults files.old)) steps.old)
+            (session_world (session_source (S.left src.new) (S.taken src.new) (S.faults src.new))
+            (session_sink (O.written out.new) (O.faults out.new)) (session_sink (E.written err.new) (E.faults err.new))
+            (session_files_seen (F.files files.new) (F.faults files.new) (F.store_faults files.new)) steps.new) }
+        ensures unasked { (input : List ℕ) → S.left src.old ≡ Some input → HeardInputNamesNoFile input → files.new
+            ≡ files.old }
         ensures opening { (src.new ≡ src.old)
-            ⊎ (GrowsAtLeast (O.written out.old) (O.written out.new) self.old.talk.said.out.items
-            × GrowsAtLeast (E.written err.old) (E.written err.new) self.old.talk.said.err.items) }
+            ⊎ (SessionSinkGrowsAtLeast (O.written out.old) (O.written out.new) self.old.talk.said.out.items
+            × SessionSinkGrowsAtLeast (E.written err.old) (E.written err.new) self.old.talk.said.err.items) }
         ensures order { (out.new ≡ out.old)
-            ⊎ GrowsAtLeast (E.written err.old) (E.written err.new) self.old.talk.said.err.items }
+            ⊎ SessionSinkGrowsAtLeast (E.written err.old) (E.written err.new) self.old.talk.said.err.items }
     {
         // The input begins with a new line.
         self.held.clear();
@@ -82,15 +83,15 @@ impl Listener {
         files: &mut F,
         steps: &mut Steps<L>,
     ) -> SessionEnd
-        ensures run { spec.AreAnswered self.old.held self.old.talk.session result
-            (world_of (source_of (S.left src.old) (S.taken src.old) (S.faults src.old))
-            (sink_of (O.written out.old) (O.faults out.old)) (sink_of (E.written err.old) (E.faults err.old))
-            (files_seen (F.files files.old) (F.faults files.old) (F.store_faults files.old)) steps.old)
-            (world_of (source_of (S.left src.new) (S.taken src.new) (S.faults src.new))
-            (sink_of (O.written out.new) (O.faults out.new)) (sink_of (E.written err.new) (E.faults err.new))
-            (files_seen (F.files files.new) (F.faults files.new) (F.store_faults files.new)) steps.new) }
-        ensures unasked { (input : List ℕ) → S.left src.old ≡ Some input → Holds [] self.old.held →
-            NamesNoFile input → files.new ≡ files.old }
+        ensures run { spec.IsWaitingSessionRun self.old.held self.old.talk.session result
+            (session_world (session_source (S.left src.old) (S.taken src.old) (S.faults src.old))
+            (session_sink (O.written out.old) (O.faults out.old)) (session_sink (E.written err.old) (E.faults err.old))
+            (session_files_seen (F.files files.old) (F.faults files.old) (F.store_faults files.old)) steps.old)
+            (session_world (session_source (S.left src.new) (S.taken src.new) (S.faults src.new))
+            (session_sink (O.written out.new) (O.faults out.new)) (session_sink (E.written err.new) (E.faults err.new))
+            (session_files_seen (F.files files.new) (F.faults files.new) (F.store_faults files.new)) steps.new) }
+        ensures unasked { (input : List ℕ) → S.left src.old ≡ Some input → HoldsInputRest [] self.old.held →
+            HeardInputNamesNoFile input → files.new ≡ files.old }
     {
         let Ok(mut block) = vec![in self.alloc; 0u8; BLOCK] else {
             return SessionEnd::NoMemory;
@@ -124,19 +125,19 @@ impl Listener {
         files: &mut F,
         steps: &mut Steps<L>,
     ) -> Option<SessionEnd>
-        ensures run { (was is : SourceSeen) →
-            spec.IsBlockAnswered result block.now self.old.held self.old.talk.session self.new.held
+        ensures run { (was is : SessionSource) →
+            spec.IsInputBlockAnswered result block.now self.old.held self.old.talk.session self.new.held
             self.new.talk.session
-            (world_of was (sink_of (O.written out.old) (O.faults out.old))
-            (sink_of (E.written err.old) (E.faults err.old))
-            (files_seen (F.files files.old) (F.faults files.old) (F.store_faults files.old)) steps.old)
-            (world_of is (sink_of (O.written out.new) (O.faults out.new))
-            (sink_of (E.written err.new) (E.faults err.new))
-            (files_seen (F.files files.new) (F.faults files.new) (F.store_faults files.new)) steps.new) }
-        ensures cut { (taken : List ℕ) → Holds taken self.old.held →
-            spec.IsBlockCut result taken block.now self.new.held }
-        ensures unasked { (taken more : List ℕ) → Holds taken self.old.held →
-            NamesNoFile ((taken ++ block.now) ++ more) → files.new ≡ files.old }
+            (session_world was (session_sink (O.written out.old) (O.faults out.old))
+            (session_sink (E.written err.old) (E.faults err.old))
+            (session_files_seen (F.files files.old) (F.faults files.old) (F.store_faults files.old)) steps.old)
+            (session_world is (session_sink (O.written out.new) (O.faults out.new))
+            (session_sink (E.written err.new) (E.faults err.new))
+            (session_files_seen (F.files files.new) (F.faults files.new) (F.store_faults files.new)) steps.new) }
+        ensures cut { (taken : List ℕ) → HoldsInputRest taken self.old.held →
+            spec.IsInputBlockCut result taken block.now self.new.held }
+        ensures unasked { (taken more : List ℕ) → HoldsInputRest taken self.old.held →
+            HeardInputNamesNoFile ((taken ++ block.now) ++ more) → files.new ≡ files.old }
     {
         let mut rest = block;
         while !rest.is_empty() {
@@ -160,15 +161,16 @@ impl Listener {
         files: &mut F,
         steps: &mut Steps<L>,
     ) -> SessionEnd
-        ensures run { (was is : SourceSeen) →
-            spec.IsEndAnswered result self.old.held self.old.talk.session
-            (world_of was (sink_of (O.written out.old) (O.faults out.old))
-            (sink_of (E.written err.old) (E.faults err.old))
-            (files_seen (F.files files.old) (F.faults files.old) (F.store_faults files.old)) steps.old)
-            (world_of is (sink_of (O.written out.new) (O.faults out.new))
-            (sink_of (E.written err.new) (E.faults err.new))
-            (files_seen (F.files files.new) (F.faults files.new) (F.store_faults files.new)) steps.new) }
-        ensures unasked { (input : List ℕ) → Holds input self.old.held → NamesNoFile input → files.new ≡ files.old }
+        ensures run { (was is : SessionSource) →
+            spec.IsInputEndAnswered result self.old.held self.old.talk.session
+            (session_world was (session_sink (O.written out.old) (O.faults out.old))
+            (session_sink (E.written err.old) (E.faults err.old))
+            (session_files_seen (F.files files.old) (F.faults files.old) (F.store_faults files.old)) steps.old)
+            (session_world is (session_sink (O.written out.new) (O.faults out.new))
+            (session_sink (E.written err.new) (E.faults err.new))
+            (session_files_seen (F.files files.new) (F.faults files.new) (F.store_faults files.new)) steps.new) }
+        ensures unasked { (input : List ℕ) → HoldsInputRest input self.old.held → HeardInputNamesNoFile input
+            → files.new ≡ files.old }
     {
         self.talk.said.clear();
         let fed = self.feed_end(files, steps);
@@ -181,7 +183,7 @@ impl Listener {
 
 // Returns how the session ended with the bytes that were fed, or `None` if it goes on.
 fn end_of(fed: Result<bool, SessionFault>) -> Option<SessionEnd>
-    ensures { result ≡ spec.end_after_feed fed }
+    ensures { result ≡ spec.session_end_after_feed fed }
 {
     match fed {
         Ok(false) => None,
@@ -192,7 +194,7 @@ fn end_of(fed: Result<bool, SessionFault>) -> Option<SessionEnd>
 
 // Returns how the session ended at the end of its input.
 fn last_end(fed: Result<(), SessionFault>) -> SessionEnd
-    ensures { result ≡ spec.end_at_input_end fed }
+    ensures { result ≡ spec.session_end_at_input_end fed }
 {
     match fed {
         Ok(()) => SessionEnd::Done,
@@ -202,7 +204,7 @@ fn last_end(fed: Result<(), SessionFault>) -> SessionEnd
 
 // Returns how a fault ends the session.
 fn fault_end(fault: SessionFault) -> SessionEnd
-    ensures { result ≡ spec.fault_end fault }
+    ensures { result ≡ spec.session_end_by_fault fault }
 {
     match fault {
         SessionFault::ReadFailed => SessionEnd::ReadFault,

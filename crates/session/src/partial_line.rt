@@ -3,7 +3,7 @@
 ghost use Rattle.std.specs.Prelude.{◌≡◌, ◌++◌, ◌≤◌, [], List, ℕ, Some, OnOk, IfSome, length};
 ghost use Rattle.std.specs.Option.{option_copied};
 ghost use Rattle.def_lines.specs.Words.{is_empty};
-ghost use Rattle.session.specs.HeardLines.{longest_line, readable};
+ghost use Rattle.session.specs.HeardLines.{longest_session_line, readable_session_line};
 
 use std::alloc::{AllocError, Global};
 use std::marker::Model;
@@ -21,13 +21,13 @@ pub(crate) struct Held {
 impl Model for Held {
     ghost use Rattle.std.specs.Prelude.{◌≤◌, List, ℕ, Some, None, length, if◌then◌else◌};
     ghost use Rattle.std.specs.declared.option.Option.{Option};
-    ghost use Rattle.session.specs.HeardLines.{longest_line};
+    ghost use Rattle.session.specs.HeardLines.{longest_session_line};
 
     ghost Value = { Option (List ℕ) };
 
     ghost view = { λ h. if h.long then None else Some h.bytes.items };
 
-    ghost invariant = { λ h. length h.bytes.items ≤ longest_line };
+    ghost invariant = { λ h. length h.bytes.items ≤ longest_session_line };
 }
 
 impl Held {
@@ -43,7 +43,8 @@ impl Held {
 
     /// Appends bytes to the line. The only error is running out of memory.
     pub(crate) fn add(&mut self, piece: &[u8]) -> Result<(), AllocError>
-        ensures { (part : List ℕ) → self.old ≡ readable part → OnOk result (self.new ≡ readable (part ++ piece.now)) }
+        ensures { (part : List ℕ) → self.old ≡ readable_session_line part
+            → OnOk result (self.new ≡ readable_session_line (part ++ piece.now)) }
     {
         if self.long {
             return Ok(());
@@ -57,7 +58,7 @@ impl Held {
 
     /// Returns whether the line has no bytes yet.
     pub(crate) fn is_empty(&self) -> bool
-        ensures { (part : List ℕ) → self.now ≡ readable part → result ≡ is_empty part }
+        ensures { (part : List ℕ) → self.now ≡ readable_session_line part → result ≡ is_empty part }
     {
         !self.long && self.bytes.is_empty()
     }
@@ -65,7 +66,7 @@ impl Held {
     /// Returns the line, or `None` if it is too long.
     pub(crate) fn line(&self) -> Option<&[u8]>
         ensures is { option_copied result ≡ self.now }
-        ensures short { IfSome result (λ line. length line.now ≤ longest_line) }
+        ensures short { IfSome result (λ line. length line.now ≤ longest_session_line) }
     {
         if self.long {
             return None;

@@ -1,9 +1,9 @@
 //! A session: its state and its prompt.
 
 ghost use Rattle.std.specs.Prelude.{◌≡◌, [], None};
-ghost use Rattle.reply.specs.Options.{IsPrintable};
+ghost use Rattle.reply.specs.Options.{AreReplyOptionsPrintable};
 ghost use Rattle.session.specs.Sessions.{prompt, session_of};
-ghost use Rattle.session.specs.Versions.{no_versions};
+ghost use Rattle.session.specs.Versions.{no_session_versions};
 
 use crate::workspace::Workspace;
 use edit_history::History;
@@ -27,11 +27,11 @@ impl Drop for Session {
 }
 
 impl Model for Session {
-    ghost use Rattle.session.specs.Sessions.{IsOneSession, SessionState, known_code, session_in};
+    ghost use Rattle.session.specs.Sessions.{IsOneSession, SessionState, session_in, session_state_code};
 
     ghost Value = { SessionState };
 
-    ghost coded = { known_code };
+    ghost coded = { session_state_code };
 
     ghost view = { λ s. session_in s.workspace };
 
@@ -41,8 +41,8 @@ impl Model for Session {
 impl Session {
     /// Returns a session over a table, with no pending FROM, nothing to undo and nothing watched. Allocates no memory.
     pub fn new(alloc: Global, table: LiveTable, options: Options) -> Session
-        requires { IsPrintable options }
-        ensures { result ≡ session_of options table None no_versions [] }
+        requires { AreReplyOptionsPrintable options }
+        ensures { result ≡ session_of options table None no_session_versions [] }
     {
         Session {
             workspace: Workspace {

@@ -1,12 +1,12 @@
 //! Output that is not written yet.
 
 ghost use Rattle.std.specs.Prelude.{◌≡◌, ◌⊎◌, ◌≤◌, ◌++◌, [], OnErr, OnOk, IfOk};
-ghost use Rattle.units_io.specs.Bytes.{known_append, GrowsByFront};
-ghost use Rattle.units_io.specs.Faults.{CountRose};
-ghost use Rattle.session.specs.Lines.{lines_of_texts};
-ghost use Rattle.session.specs.Parts.{line_said};
-ghost use Rattle.session.specs.SessionProgress.{Begins};
-ghost use Rattle.session.specs.Talks.{opening_text};
+ghost use Rattle.units_io.specs.Bytes.{sink_bytes_append, SinkGrowsByPrefix};
+ghost use Rattle.units_io.specs.Faults.{HasIoCountRisen};
+ghost use Rattle.session.specs.Lines.{session_lines_of_texts};
+ghost use Rattle.session.specs.Parts.{session_line_output};
+ghost use Rattle.session.specs.SessionProgress.{BeginsTalkOutput};
+ghost use Rattle.session.specs.Talks.{session_opening_text};
 
 use crate::answer::LineReply;
 use crate::lines::{notice_lines, put_lines};
@@ -29,8 +29,8 @@ impl Said {
     /// Returns the output before the first line: the messages, the banner and the prompt, unless the session is quiet,
     /// and the notices of the definitions on `err`. The only error is running out of memory.
     pub fn opening_output(alloc: Global, session: &Session) -> Result<Said, AllocError>
-        ensures out { IfOk result (λ said. said.out.items ≡ opening_text session.now) }
-        ensures err { IfOk result (λ said. said.err.items ≡ lines_of_texts session.now.table.deck.notices) }
+        ensures out { IfOk result (λ said. said.out.items ≡ session_opening_text session.now) }
+        ensures err { IfOk result (λ said. said.err.items ≡ session_lines_of_texts session.now.table.deck.notices) }
     {
         let mut out = Vec::new(alloc);
         put_opening(alloc, &mut out, session)?;
@@ -56,16 +56,17 @@ impl Said {
     /// The only error is `Failed`, if a sink failed, which that sink has counted; then each sink has a front of its
     /// bytes.
     pub fn write<O: Sink, E: Sink>(&self, out: &mut O, err: &mut E) -> Result<(), Failed>
-        ensures whole { OnOk result ((O.written out.new ≡ known_append (O.written out.old) self.now.out.items)
-            × (E.written err.new ≡ known_append (E.written err.old) self.now.err.items)) }
-        ensures out { GrowsByFront (O.written out.old) (O.written out.new) self.now.out.items }
-        ensures err { GrowsByFront (E.written err.old) (E.written err.new) self.now.err.items }
+        ensures whole { OnOk result ((O.written out.new ≡ sink_bytes_append (O.written out.old) self.now.out.items)
+            × (E.written err.new ≡ sink_bytes_append (E.written err.old) self.now.err.items)) }
+        ensures out { SinkGrowsByPrefix (O.written out.old) (O.written out.new) self.now.out.items }
+        ensures err { SinkGrowsByPrefix (E.written err.old) (E.written err.new) self.now.err.items }
         ensures cause { OnErr result
-            (CountRose (O.faults out.old) (O.faults out.new) ⊎ CountRose (E.faults err.old) (E.faults err.new)) }
+            (HasIoCountRisen (O.faults out.old) (O.faults out.new)
+            ⊎ HasIoCountRisen (E.faults err.old) (E.faults err.new)) }
         ensures out_later { O.faults out.old ≤ O.faults out.new }
         ensures err_later { E.faults err.old ≤ E.faults err.new }
         ensures order { (out.new ≡ out.old)
-            ⊎ (E.written err.new ≡ known_append (E.written err.old) self.now.err.items) }
+            ⊎ (E.written err.new ≡ sink_bytes_append (E.written err.old) self.now.err.items) }
     {
         put_all(err, self.err.as_slice())?;
         put_all(out, self.out.as_slice())
@@ -73,10 +74,12 @@ impl Said {
 
     // Appends an answer, and the prompt for the next line unless this was the last line.
     pub(crate) fn add(&mut self, session: &Session, reply: &LineReply) -> Result<(), AllocError>
-        ensures whole { OnOk result ((self.new.out.items ≡ self.old.out.items ++ line_said reply.now session.now)
+        ensures whole { OnOk result
+            ((self.new.out.items ≡ self.old.out.items ++ session_line_output reply.now session.now)
             × (self.new.err.items ≡ self.old.err.items ++ reply.now.err)) }
-        ensures out { Begins self.new.out.items (self.old.out.items ++ line_said reply.now session.now) }
-        ensures err { Begins self.new.err.items (self.old.err.items ++ reply.now.err) }
+        ensures out { BeginsTalkOutput self.new.out.items
+            (self.old.out.items ++ session_line_output reply.now session.now) }
+        ensures err { BeginsTalkOutput self.new.err.items (self.old.err.items ++ reply.now.err) }
     {
         self.err.extend_from_slice(reply.err.as_bytes())?;
         self.out.extend_from_slice(reply.out.as_bytes())?;
@@ -88,9 +91,9 @@ impl Said {
 }
 
 // Appends the messages, the banner and the prompt, unless the session is quiet.
-#[tactic(auto, unfolding(crate::specs::Talks::opening_text))]
+#[tactic(auto, unfolding(crate::specs::Talks::session_opening_text))]
 fn put_opening(alloc: Global, out: &mut Vec<u8>, session: &Session) -> Result<(), AllocError>
-    ensures { OnOk result (out.new.items ≡ out.old.items ++ opening_text session.now) }
+    ensures { OnOk result (out.new.items ≡ out.old.items ++ session_opening_text session.now) }
 {
     if session.is_quiet() {
         return Ok(());

@@ -2,10 +2,10 @@
 
 ghost use Rattle.std.specs.Prelude.{◌≡◌};
 ghost use Rattle.deck.specs.Tables as tables;
-ghost use Rattle.reply.specs.Options.{IsPrintable};
+ghost use Rattle.reply.specs.Options.{AreReplyOptionsPrintable};
 ghost use Rattle.reply.specs.Replies as replies;
 ghost use Rattle.survey.specs.ConversionReplies as spec;
-ghost use Rattle.session.specs.Parts.{IsReplied};
+ghost use Rattle.session.specs.Parts.{IsSessionQueryAnswered};
 
 use live_table::LiveTable;
 use reply::{FromValue, Options, definition_reply, from_value};
@@ -22,9 +22,10 @@ pub(crate) fn evaluate_text<L: Ledger>(
     text: &[u8],
     steps: &mut Steps<L>,
 ) -> Result<FromValue, AllocError>
-    requires { IsPrintable options.now }
-    ensures reply { IsReplied (replies.value_queries (tables.table table.old.deck) text.now)
-        (replies.from_value (tables.table table.old.deck) options.now text.now) result table.old table.new
+    requires { AreReplyOptionsPrintable options.now }
+    ensures reply { IsSessionQueryAnswered
+        (replies.inquiry_value_queries (tables.table_of_deck table.old.deck) text.now)
+        (replies.from_value (tables.table_of_deck table.old.deck) options.now text.now) result table.old table.new
         steps.old steps.new }
     ensures deck { table.new.deck ≡ table.old.deck }
 {
@@ -39,9 +40,9 @@ pub(crate) fn ask_definition<L: Ledger>(
     from: &[u8],
     steps: &mut Steps<L>,
 ) -> Result<Text, AllocError>
-    requires { IsPrintable options.now }
-    ensures reply { let asked = spec.asked_definition (tables.table table.old.deck) options.now from.now in
-        IsReplied asked.queries asked.reply.text result table.old table.new steps.old steps.new }
+    requires { AreReplyOptionsPrintable options.now }
+    ensures reply { let asked = spec.asked_definition (tables.table_of_deck table.old.deck) options.now from.now in
+        IsSessionQueryAnswered asked.queries asked.reply.text result table.old table.new steps.old steps.new }
     ensures deck { table.new.deck ≡ table.old.deck }
 {
     let reply = definition_reply(alloc, table, options, from, steps)?;
@@ -56,9 +57,9 @@ pub(crate) fn conformable<L: Ledger>(
     from: &[u8],
     steps: &mut Steps<L>,
 ) -> Result<Text, AllocError>
-    requires { IsPrintable options.now }
-    ensures reply { let asked = spec.asked_conformable (tables.table table.old.deck) options.now from.now in
-        IsReplied asked.queries asked.reply.text result table.old table.new steps.old steps.new }
+    requires { AreReplyOptionsPrintable options.now }
+    ensures reply { let asked = spec.asked_conformable (tables.table_of_deck table.old.deck) options.now from.now in
+        IsSessionQueryAnswered asked.queries asked.reply.text result table.old table.new steps.old steps.new }
     ensures deck { table.new.deck ≡ table.old.deck }
 {
     let reply = conformable_reply(alloc, table, options, from, steps)?;

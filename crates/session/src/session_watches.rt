@@ -2,17 +2,17 @@
 
 ghost use Rattle.std.specs.Prelude.{◌≡◌, map, IfOk, OnOk, false};
 ghost use Rattle.units_io.specs.FileMap.{FileMap};
-ghost use Rattle.def_entry.specs.Tables.{Table};
+ghost use Rattle.def_entry.specs.Tables.{EntryTable};
 ghost use Rattle.deck.specs.Tables as tables;
-ghost use Rattle.live_table.specs.Calls.{AreQueries};
-ghost use Rattle.reply.specs.Options.{IsPrintable};
-ghost use Rattle.session.specs.AnswerEffects.{FailsOnlyForMemory};
-ghost use Rattle.session.specs.Answers.{watch_answer};
-ghost use Rattle.session.specs.Parts.{IsAnswerGiven};
-ghost use Rattle.session.specs.Sessions.{IsOneSession, session_in, state_of};
-ghost use Rattle.session.specs.WatchQueries.{is_full, watched_queries};
+ghost use Rattle.live_table.specs.Calls.{AreLiveQueries};
+ghost use Rattle.reply.specs.Options.{AreReplyOptionsPrintable};
+ghost use Rattle.session.specs.AnswerEffects.{AnswerFailsOnlyForMemory};
+ghost use Rattle.session.specs.Answers.{session_watch_answer};
+ghost use Rattle.session.specs.Parts.{IsSessionAnswerGiven};
+ghost use Rattle.session.specs.Sessions.{IsOneSession, session_and_files, session_in};
+ghost use Rattle.session.specs.WatchQueries.{is_session_watch_list_full, session_watch_queries};
 ghost use Rattle.watch.specs.Edits.{report_by_edit};
-ghost use Rattle.watch.specs.WatchViews.{AreCurrent, subject_of, watch_subject};
+ghost use Rattle.watch.specs.WatchViews.{AreCurrent, subject_of_watch, watch_subject};
 
 use crate::answer::{LineReply, output_reply};
 use crate::fault::SessionFault;
@@ -33,13 +33,13 @@ pub(crate) fn report_changes<L: Ledger>(
     watches: &mut Watches,
     steps: &mut Steps<L>,
 ) -> Result<Text, AllocError>
-    requires { IsPrintable options.now }
-    ensures told { (before : Table) → AreCurrent before options.now watches.old → IfOk result (λ text. text
-        ≡ report_by_edit before (tables.table table.old.deck) options.now (map subject_of watches.old)) }
-    ensures watched { OnOk result (map subject_of watches.new ≡ map subject_of watches.old) }
-    ensures current { AreCurrent (tables.table table.new.deck) options.now watches.new }
-    ensures queries { AreQueries
-        (watched_queries (tables.table table.old.deck) options.now (map subject_of watches.old))
+    requires { AreReplyOptionsPrintable options.now }
+    ensures told { (before : EntryTable) → AreCurrent before options.now watches.old → IfOk result (λ text. text
+        ≡ report_by_edit before (tables.table_of_deck table.old.deck) options.now (map subject_of_watch watches.old)) }
+    ensures watched { OnOk result (map subject_of_watch watches.new ≡ map subject_of_watch watches.old) }
+    ensures current { AreCurrent (tables.table_of_deck table.new.deck) options.now watches.new }
+    ensures queries { AreLiveQueries
+        (session_watch_queries (tables.table_of_deck table.old.deck) options.now (map subject_of_watch watches.old))
         result table.old table.new steps.old steps.new }
     ensures deck { table.new.deck ≡ table.old.deck }
 {
@@ -62,13 +62,13 @@ impl Workspace {
         steps: &mut Steps<L>,
     ) -> Result<LineReply, SessionFault>
         requires parts { IsOneSession self.old }
-        ensures said { (m : FileMap) → IsAnswerGiven
-            (watch_answer (is_full (map subject_of self.old.watches)) (watch_subject from.now to.now)
-            (state_of (session_in self.old) m))
+        ensures said { (m : FileMap) → IsSessionAnswerGiven
+            (session_watch_answer (is_session_watch_list_full (map subject_of_watch self.old.watches))
+            (watch_subject from.now to.now) (session_and_files (session_in self.old) m))
             result (session_in self.new) steps.old steps.new }
         ensures done { IfOk result (λ reply. reply.done ≡ false) }
         ensures parts { IsOneSession self.new }
-        ensures calm { FailsOnlyForMemory result }
+        ensures calm { AnswerFailsOnlyForMemory result }
     {
         match self
             .watches

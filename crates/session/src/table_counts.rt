@@ -10,9 +10,9 @@ use std::alloc::{AllocError, Global};
 use units_io::Text;
 
 /// Returns the line with the number of settled names, the number of all names, and the number of reductions so far.
-#[tactic(auto, unfolding(crate::specs::TableCounts::statistics))]
+#[tactic(auto, unfolding(crate::specs::TableCounts::session_statistics))]
 pub(crate) fn statistics(alloc: Global, table: &LiveTable) -> Result<Text, AllocError>
-    ensures { IfOk result (λ text. text ≡ spec.statistics table.now) }
+    ensures { IfOk result (λ text. text ≡ spec.session_statistics table.now) }
 {
     let counts = table.counts();
     let mut text = Vec::from_slice(alloc, b"settled ")?;
@@ -23,9 +23,9 @@ pub(crate) fn statistics(alloc: Global, table: &LiveTable) -> Result<Text, Alloc
 }
 
 /// Appends the line with the numbers of definitions.
-#[tactic(auto, unfolding(crate::specs::TableCounts::banner))]
+#[tactic(auto, unfolding(crate::specs::TableCounts::session_banner))]
 pub(crate) fn put_banner(alloc: Global, text: &mut Vec<u8>, deck: &Deck) -> Result<(), AllocError>
-    ensures { OnOk result (text.new.items ≡ text.old.items ++ spec.banner deck.now) }
+    ensures { OnOk result (text.new.items ≡ text.old.items ++ spec.session_banner deck.now) }
 {
     put_count(alloc, text, deck.key_count(Kind::Unit) as u64, b" units, ")?;
     put_count(
@@ -49,7 +49,7 @@ pub(crate) fn put_count(
     count: u64,
     words: &[u8],
 ) -> Result<(), AllocError>
-    ensures { OnOk result (text.new.items ≡ text.old.items ++ spec.table_count_text count words.now) }
+    ensures { OnOk result (text.new.items ≡ text.old.items ++ spec.session_count_text count words.now) }
 {
     text.extend_from_slice(count.to_string(alloc)?.as_bytes())?;
     text.extend_from_slice(words)?;

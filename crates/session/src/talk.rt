@@ -1,19 +1,20 @@
 //! A session and its output.
 
-ghost use Rattle.std.specs.Prelude.{◌≡◌, ◌∷◌, ◌≤◌, List, ℕ, [], length, IfOk, IfSome, MatchResult};
-ghost use Rattle.std.specs.Prelude.{codes, false};
+ghost use Rattle.std.specs.Prelude.{◌≡◌, ◌∷◌, ◌≤◌, List, ℕ, [], length, IfOk, IfSome, MatchResult, codes, false};
 ghost use Rattle.std.specs.Option.{option_copied};
 ghost use Rattle.units_io.specs.FileMap.{FileMap};
-ghost use Rattle.session.specs.AnswerEffects.{AreCounted, IsLineAnswered, file_faults, scene_of};
-ghost use Rattle.session.specs.HeardLines.{is_last, is_last_read, longest_line, readable, saved_by_read};
-ghost use Rattle.session.specs.HeardLines.{loads_file_in, loads_file_read, names_file_read};
-ghost use Rattle.session.specs.FilesLeft.{LineKeeps};
-ghost use Rattle.session.specs.Parts.{IsLine};
-ghost use Rattle.session.specs.Sessions.{state_of};
-ghost use Rattle.session.specs.SessionProgress.{Base, IsAt, IsBroken, now_of};
+ghost use Rattle.session.specs.AnswerEffects.{AreSessionFileFaultsCounted, IsSessionLineAnswered, session_file_faults};
+ghost use Rattle.session.specs.AnswerEffects.{session_scene};
+ghost use Rattle.session.specs.HeardLines.{is_last_read_session_line, is_last_session_line, longest_session_line};
+ghost use Rattle.session.specs.HeardLines.{read_session_line_save_name, readable_session_line, heard_line_loads_file};
+ghost use Rattle.session.specs.HeardLines.{read_session_line_loads_file, read_session_line_names_file};
+ghost use Rattle.session.specs.FilesLeft.{SessionLineKeepsFiles};
+ghost use Rattle.session.specs.Parts.{IsSessionLineReply};
+ghost use Rattle.session.specs.Sessions.{session_and_files};
+ghost use Rattle.session.specs.SessionProgress.{IsAtPointOfTalk, IsTalkBroken, SessionBase, session_now_of};
 ghost use Rattle.session.specs.Steps as spec;
 ghost use Rattle.session.specs.Talks.{SessionTrace, talk_with_answer};
-ghost use Rattle.session.specs.KnownContents.{IsToldIf, TellsIf};
+ghost use Rattle.session.specs.KnownContents.{IsSessionValueIfKnown, IsSessionValueKnownIfNeeded};
 
 use crate::answer::LineReply;
 use crate::fault::SessionFault;
@@ -40,20 +41,22 @@ impl Talk {
         files: &mut F,
         steps: &mut Steps<L>,
     ) -> Result<bool, SessionFault>
-        requires { IfSome line (λ line. length line.now ≤ longest_line) }
-        ensures told { (base : Base) (talk : SessionTrace) (part : List ℕ) → option_copied line.entry ≡ readable part →
-            IsToldIf (loads_file_in part) base.files → IsAt base talk
-            (now_of self.old.said self.old.session (F.files files.old) steps.old) →
+        requires { IfSome line (λ line. length line.now ≤ longest_session_line) }
+        ensures told { (base : SessionBase) (talk : SessionTrace) (part : List ℕ) → option_copied line.entry
+            ≡ readable_session_line part →
+            IsSessionValueKnownIfNeeded (heard_line_loads_file part) base.files → IsAtPointOfTalk base talk
+            (session_now_of self.old.said self.old.session (F.files files.old) steps.old) →
             MatchResult result
-            (λ done. (done ≡ is_last part)
-            × IsAt base (talk_with_answer talk (spec.line_answer talk.state part) part)
-            (now_of self.new.said self.new.session (F.files files.new) steps.new))
-            (λ fault. IsBroken fault base talk (part ∷ [])
-            (now_of self.new.said self.new.session (F.files files.new) steps.new)) }
-        ensures faults { AreCounted result (file_faults (F.faults files.old) (F.store_faults files.old))
-            (file_faults (F.faults files.new) (F.store_faults files.new)) }
-        ensures last { IfOk result (λ done. done ≡ is_last_read (option_copied line.entry)) }
-        ensures unasked { names_file_read (option_copied line.entry) ≡ false → files.new ≡ files.old }
+            (λ done. (done ≡ is_last_session_line part)
+            × IsAtPointOfTalk base (talk_with_answer talk (spec.session_line_answer talk.state part) part)
+            (session_now_of self.new.said self.new.session (F.files files.new) steps.new))
+            (λ fault. IsTalkBroken fault base talk (part ∷ [])
+            (session_now_of self.new.said self.new.session (F.files files.new) steps.new)) }
+        ensures faults { AreSessionFileFaultsCounted result
+            (session_file_faults (F.faults files.old) (F.store_faults files.old))
+            (session_file_faults (F.faults files.new) (F.store_faults files.new)) }
+        ensures last { IfOk result (λ done. done ≡ is_last_read_session_line (option_copied line.entry)) }
+        ensures unasked { read_session_line_names_file (option_copied line.entry) ≡ false → files.new ≡ files.old }
     {
         let reply = match answer_line(alloc, &mut self.session, line, files, steps) {
             Ok(reply) => reply,
@@ -74,17 +77,19 @@ fn answer_line<F: Files, L: Ledger>(
     files: &mut F,
     steps: &mut Steps<L>,
 ) -> Result<LineReply, SessionFault>
-    requires { IfSome line (λ line. length line.now ≤ longest_line) }
-    ensures answer { (m : FileMap) → TellsIf (loads_file_read (option_copied line.entry)) (F.files files.old) m →
-        IsLineAnswered (spec.answer_read (state_of session.old m) (option_copied line.entry)) result
-        (scene_of session.old (F.files files.old) steps.old)
-        (scene_of session.new (F.files files.new) steps.new) }
-    ensures done { IfOk result (λ reply. reply.done ≡ is_last_read (option_copied line.entry)) }
-    ensures kept { LineKeeps (saved_by_read (option_copied line.entry)) result (F.files files.old)
-        (F.files files.new) }
-    ensures faults { AreCounted result (file_faults (F.faults files.old) (F.store_faults files.old))
-        (file_faults (F.faults files.new) (F.store_faults files.new)) }
-    ensures unasked { names_file_read (option_copied line.entry) ≡ false → files.new ≡ files.old }
+    requires { IfSome line (λ line. length line.now ≤ longest_session_line) }
+    ensures answer { (m : FileMap) → IsSessionValueIfKnown (read_session_line_loads_file (option_copied line.entry))
+        (F.files files.old) m →
+        IsSessionLineAnswered (spec.session_answer_to_read_line (session_and_files session.old m)
+        (option_copied line.entry)) result (session_scene session.old (F.files files.old) steps.old)
+        (session_scene session.new (F.files files.new) steps.new) }
+    ensures done { IfOk result (λ reply. reply.done ≡ is_last_read_session_line (option_copied line.entry)) }
+    ensures kept { SessionLineKeepsFiles (read_session_line_save_name (option_copied line.entry)) result
+        (F.files files.old) (F.files files.new) }
+    ensures faults { AreSessionFileFaultsCounted result
+        (session_file_faults (F.faults files.old) (F.store_faults files.old))
+        (session_file_faults (F.faults files.new) (F.store_faults files.new)) }
+    ensures unasked { read_session_line_names_file (option_copied line.entry) ≡ false → files.new ≡ files.old }
 {
     match line {
         Some(line) => session.line(alloc, line, files, steps),
@@ -94,7 +99,7 @@ fn answer_line<F: Files, L: Ledger>(
 
 // Returns the answer to a line that is too long.
 fn too_long(alloc: Global) -> Result<LineReply, AllocError>
-    ensures { IfOk result (λ reply. IsLine reply (codes "line too long\n") [] false) }
+    ensures { IfOk result (λ reply. IsSessionLineReply reply (codes "line too long\n") [] false) }
 {
     Ok(LineReply {
         out: Text::from_bytes(alloc, b"line too long\n")?,

@@ -1,7 +1,7 @@
 //! Decks of texts that are within the limits of a deck.
 
 ghost use Rattle.std.specs.Prelude.{◌≡◌, IfOk, Ok};
-ghost use Rattle.deck.specs.FileLoads.{after_text};
+ghost use Rattle.deck.specs.FileLoads.{deck_after_text_loading};
 ghost use Rattle.session.specs.TextDecks as spec;
 
 use deck::{Deck, DeckFault, Settings};
@@ -18,7 +18,8 @@ pub fn text_deck(
 ) -> Result<Deck, AllocError>
     requires { spec.FitsDeck text.now }
     ensures is { IfOk result (λ deck. deck ≡ spec.text_deck name.now text.now settings) }
-    ensures within { after_text text.now name.now settings ≡ Ok (spec.text_deck name.now text.now settings) }
+    ensures within { deck_after_text_loading text.now name.now settings
+        ≡ Ok (spec.text_deck name.now text.now settings) }
 {
     match Deck::from_text(alloc, text, name, settings) {
         Ok(deck) => Ok(deck),

@@ -1,9 +1,9 @@
 //! A trial: a session over generated definitions and generated lines.
 
 ghost use Rattle.std.specs.Prelude.{◌≡◌, ◌≤◌, IfOk};
-ghost use Rattle.reply.specs.Options.{IsPrintable};
-ghost use Rattle.session.specs.Talks.{trace_on};
-ghost use Rattle.session.specs.TrialEffects.{IsTalked, Tells};
+ghost use Rattle.reply.specs.Options.{AreReplyOptionsPrintable};
+ghost use Rattle.session.specs.Talks.{talk_over_input};
+ghost use Rattle.session.specs.TrialEffects.{IsTalkSpoken, IsTrialSummary};
 ghost use Rattle.session.specs.Trials as spec;
 
 use crate::listener::Listener;
@@ -29,10 +29,11 @@ pub fn run_trial<L: Ledger>(
     rounds: u16,
     steps: &mut Steps<L>,
 ) -> Result<Text, AllocError>
-    requires printable { IsPrintable options }
+    requires printable { AreReplyOptionsPrintable options }
     requires some { 1 ≤ rounds }
     requires few { rounds ≤ 20000 }
-    ensures { IfOk result (λ text. Tells (spec.trial_session options settings rounds) text steps.old steps.new) }
+    ensures { IfOk result (λ text. IsTrialSummary (spec.trial_session options settings rounds) text steps.old
+        steps.new) }
 {
     let text = definitions(alloc, rounds)?;
     let deck = text_deck(alloc, &text, b"trial", settings)?;
@@ -44,8 +45,8 @@ pub fn run_trial<L: Ledger>(
 
 // Returns a session that says nothing but answers.
 fn quiet_session(alloc: Global, deck: Deck, options: Options) -> Session
-    requires { IsPrintable options }
-    ensures { result ≡ spec.quiet_session options deck }
+    requires { AreReplyOptionsPrintable options }
+    ensures { result ≡ spec.quiet_trial_session options deck }
 {
     let options = Options {
         quiet: true,
@@ -62,7 +63,8 @@ fn answer_lines<L: Ledger>(
     steps: &mut Steps<L>,
 ) -> Result<Talk, AllocError>
     ensures { IfOk result (λ talk.
-        IsTalked (trace_on (spec.silent_trace session) lines.now) talk.said talk.session steps.old steps.new) }
+        IsTalkSpoken (talk_over_input (spec.silent_talk session) lines.now) talk.said talk.session steps.old
+        steps.new) }
 {
     let mut files = NoFiles::new();
     let said = Said {
@@ -86,7 +88,7 @@ fn answer_lines<L: Ledger>(
 
 // Returns the summary of a trial whose replies have `bytes` bytes and that left this table.
 fn summary(alloc: Global, rounds: u16, bytes: usize, table: &LiveTable) -> Result<Text, AllocError>
-    ensures { IfOk result (λ text. text ≡ spec.summary rounds bytes table.now) }
+    ensures { IfOk result (λ text. text ≡ spec.trial_summary rounds bytes table.now) }
 {
     let mut text = Vec::from_slice(alloc, b"definitions ")?;
     put_count(alloc, &mut text, u64::from(rounds) + 1, b", edits ")?;

@@ -24,7 +24,7 @@ pub(crate) fn definitions(alloc: Global, last: u16) -> Result<Vec<u8>, AllocErro
 /// Returns the lines of all rounds of a trial. The only error is running out of memory.
 pub(crate) fn all_rounds(alloc: Global, rounds: u16) -> Result<Vec<u8>, AllocError>
     requires some { 1 ≤ rounds }
-    ensures { IfOk result (λ text. text.items ≡ spec.rounds rounds rounds) }
+    ensures { IfOk result (λ text. text.items ≡ spec.trial_rounds_text rounds rounds) }
 {
     let mut text = Vec::new(alloc);
     let mut k = 0u16;
@@ -39,7 +39,7 @@ pub(crate) fn all_rounds(alloc: Global, rounds: u16) -> Result<Vec<u8>, AllocErr
 fn put_round(alloc: Global, text: &mut Vec<u8>, rounds: u16, k: u16) -> Result<(), AllocError>
     requires some { 1 ≤ rounds }
     requires within { k ≤ rounds }
-    ensures { OnOk result (text.new.items ≡ text.old.items ++ spec.round rounds k) }
+    ensures { OnOk result (text.new.items ≡ text.old.items ++ spec.trial_round_text rounds k) }
 {
     let edited = spread(7, k, rounds);
     text.extend_from_slice(b":define ")?;
@@ -66,7 +66,7 @@ fn put_multiple(
     factor: u16,
     j: u16,
 ) -> Result<(), AllocError>
-    ensures is { OnOk result (text.new.items ≡ text.old.items ++ spec.multiple_line i factor j) }
+    ensures is { OnOk result (text.new.items ≡ text.old.items ++ spec.trial_multiple_line i factor j) }
     ensures short { OnOk result (length text.new.items ≤ length text.old.items + 22) }
 {
     put_name(alloc, text, i)?;
@@ -80,7 +80,7 @@ fn put_multiple(
 
 // Appends the name of the i-th unit.
 fn put_name(alloc: Global, text: &mut Vec<u8>, i: u16) -> Result<(), AllocError>
-    ensures is { OnOk result (text.new.items ≡ text.old.items ++ spec.unit_name i) }
+    ensures is { OnOk result (text.new.items ≡ text.old.items ++ spec.trial_unit_name i) }
     ensures short { OnOk result (length text.new.items ≤ length text.old.items + 7) }
 {
     text.extend_from_slice(b"u_")?;

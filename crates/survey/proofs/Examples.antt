@@ -6,9 +6,9 @@ use Rattle.frac128.specs.Steps.{lowest_terms}
 use Rattle.survey.specs.Examples.{CheckLaw, SearchRowsLaw}
 
 -- the examples of checks
-pub checks : CheckLaw
+pub check_law : CheckLaw
 unfolding digits gcd gcd_within lowest_terms
-checks = record {
+check_law = record {
   sound_key = refl;
   unknown_unit = refl;
   overflow = refl;
@@ -26,9 +26,9 @@ checks = record {
 }
 
 -- the examples of rows
-pub rows : SearchRowsLaw
+pub search_rows_law : SearchRowsLaw
 unfolding gcd gcd_within lowest_terms
-rows = record {
+search_rows_law = record {
   rows_inside = refl;
   not_in_key_text = refl;
   anywhere = refl;

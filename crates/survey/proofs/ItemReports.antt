@@ -4,28 +4,29 @@ use Rattle.std.proofs.Common.{subst}
 use Rattle.std.proofs.lemmas.Grind.{flat_map-append}
 use Rattle.std.proofs.lemmas.List.{append-nil, drop_all, flat_map_more, take-append-drop}
 use Rattle.std.specs.List.{flat_map, slice_get}
-use Rattle.live_table.specs.TableView.{IsAfterEvents, IsCutOff, IsRightTable, Shown}
-use Rattle.live_table.specs.States.{Event}
-use Rattle.live_table.proofs.QuerySequence.{cut_both, follows_both, follows_none}
+use Rattle.live_table.specs.TableView.{AreLiveEventsCutOff, IsAfterLiveEvents, IsRightLiveView, LiveView}
+use Rattle.live_table.specs.States.{LiveEvent}
+use Rattle.live_table.proofs.QuerySequence.{live_event_runs_in_turn, live_events_cut_off_in_midst}
+use Rattle.live_table.proofs.QuerySequence.{no_live_events_keep_view}
 use Rattle.general_lemmas.proofs.Places.{drop_at, take_at}
 
 -- the lines of the first items were appended to some bytes, and their queries were made
-pub record IsUnderway {A : Type 0} (line : A → List ℕ) (asks : A → List Event) (items : List A) (i : ℕ)
-    (start bytes : List ℕ) (before now : Shown) (old new : ℕ) : Type 0 where
+pub record IsUnderway {A : Type 0} (line : A → List ℕ) (asks : A → List LiveEvent) (items : List A) (i : ℕ)
+    (start bytes : List ℕ) (before now : LiveView) (old new : ℕ) : Type 0 where
   pub text : bytes ≡ start ++ flat_map line (take i items)
   pub deck : now.deck ≡ before.deck
-  pub follows : IsAfterEvents (flat_map asks (take i items)) before now old new
+  pub follows : IsAfterLiveEvents (flat_map asks (take i items)) before now old new
 
-module _ {A : Type 0} (line : A → List ℕ) (asks : A → List Event) (items : List A) where
-  pub underway-start : (start : List ℕ) (s : Shown) (n : ℕ) → IsRightTable s
+module _ {A : Type 0} (line : A → List ℕ) (asks : A → List LiveEvent) (items : List A) where
+  pub underway-start : (start : List ℕ) (s : LiveView) (n : ℕ) → IsRightLiveView s
       → IsUnderway line asks items 0 start start s s n n
   underway-start start s n right = record {
     text = sym (append-nil start);
     deck = refl;
-    follows = follows_none s n right;
+    follows = no_live_events_keep_view s n right;
   }
 
-  module _ (i : ℕ) (start bytes : List ℕ) (before now : Shown) (old new : ℕ)
+  module _ (i : ℕ) (start bytes : List ℕ) (before now : LiveView) (old new : ℕ)
       (u : IsUnderway line asks items i start bytes before now old new) where
     -- the items up to the end are all items
     all : length items ≤ i → take i items ≡ items
@@ -36,13 +37,14 @@ module _ {A : Type 0} (line : A → List ℕ) (asks : A → List Event) (items :
     pub underway-text : length items ≤ i → bytes ≡ start ++ flat_map line items
     underway-text h = u.text ∙ ap (λ (ks : List A). start ++ flat_map line ks) (all h)
 
-    pub underway-follows : length items ≤ i → IsAfterEvents (flat_map asks items) before now old new
-    underway-follows h = subst (λ (ks : List A). IsAfterEvents (flat_map asks ks) before now old new) (all h) u.follows
+    pub underway-follows : length items ≤ i → IsAfterLiveEvents (flat_map asks items) before now old new
+    underway-follows h = subst (λ (ks : List A). IsAfterLiveEvents (flat_map asks ks) before now old new)
+        (all h) u.follows
 
-    module _ (k : A) (at : slice_get items i ≡ Some k) (later : Shown) (last : ℕ) where
+    module _ (k : A) (at : slice_get items i ≡ Some k) (later : LiveView) (last : ℕ) where
       -- one more item is done
       pub underway-next : (further : List ℕ) → further ≡ bytes ++ line k → later.deck ≡ now.deck
-          → IsAfterEvents (asks k) now later new last
+          → IsAfterLiveEvents (asks k) now later new last
           → IsUnderway line asks items (i + 1) start further before later old last
       underway-next further is same f = record {
         text =
@@ -51,16 +53,18 @@ module _ {A : Type 0} (line : A → List ℕ) (asks : A → List Event) (items :
             ∙ (flat_map_more line start (take i items) k
             ∙ ap (λ (ks : List A). start ++ flat_map line ks) (sym (take_at items i k at))));
         deck = same ∙ u.deck;
-        follows = subst (λ (es : List Event). IsAfterEvents es before later old last)
+        follows = subst (λ (es : List LiveEvent). IsAfterLiveEvents es before later old last)
             (flat_map_more asks [] (take i items) k ∙ ap (flat_map asks) (sym (take_at items i k at)))
-            (follows_both (flat_map asks (take i items)) (asks k) before now later old new last u.follows f);
+            (live_event_runs_in_turn (flat_map asks (take i items)) (asks k) before now later old new last u.follows f);
       }
 
       -- memory runs out at the next item
-      pub underway-cut : IsCutOff (asks k) now later new last → IsCutOff (flat_map asks items) before later old last
+      pub underway-cut : AreLiveEventsCutOff (asks k) now later new last
+          → AreLiveEventsCutOff (flat_map asks items) before later old last
       underway-cut f =
-          subst (λ (es : List Event). IsCutOff es before later old last) (sym whole)
-          (cut_both (flat_map asks (take i items)) (asks k) (flat_map asks (drop (i + 1) items)) before now later old
+          subst (λ (es : List LiveEvent). AreLiveEventsCutOff es before later old last) (sym whole)
+          (live_events_cut_off_in_midst (flat_map asks (take i items)) (asks k) (flat_map asks (drop (i + 1) items))
+          before now later old
           new
           last u.deck u.follows f)
         where

@@ -2,36 +2,38 @@
 use Rattle.std.proofs.Common.{◌≡◌, inl, inr, refl, sym, ap, subst, ℕ, [], ◌∷◌}
 use Rattle.std.specs.Prelude.{Result, Ok, Err, Option, Some, None}
 use Rattle.quantity.specs.Amount.{Amount}
-use Rattle.tree_eval.specs.Steps.{Worth}
+use Rattle.tree_eval.specs.Steps.{ValueOrFault}
 use Rattle.table_names.specs.declared.fault.NameFault.{NameFault}
 use Rattle.live_table.specs.declared.fault.QueryFault.{QueryFault}
 use Rattle.live_table.specs.declared.fault.QueryFault.TheVariants as query
-use Rattle.live_table.specs.Answers.{IsQueryResult, by_names}
-use Rattle.live_table.specs.Calls.{IsQuery}
-use Rattle.live_table.specs.TableView.{IsAfterEvents, Shown}
-use Rattle.live_table.specs.States.{Event}
-use Rattle.reply.specs.Calls.{IsInquired, as_inquired, itself}
+use Rattle.live_table.specs.Answers.{IsLiveQueryResult, live_answer_of_worth}
+use Rattle.live_table.specs.Calls.{IsLiveQuery}
+use Rattle.live_table.specs.TableView.{IsAfterLiveEvents, LiveView}
+use Rattle.live_table.specs.States.{LiveEvent}
+use Rattle.reply.specs.Calls.{IsInquiryAnswered, inquiry_identity, inquiry_result}
 use Rattle.reply.specs.Inquiries.{Inquiry}
-use Rattle.survey.specs.Calls.{names_alone}
-use Rattle.survey.specs.Checks.{names_answer}
+use Rattle.survey.specs.Calls.{check_of_names_alone}
+use Rattle.survey.specs.Checks.{check_names_answer}
 
 -- the inquiry for the names alone
-abbrev pub names-asked : Event → Option NameFault → Inquiry (Unit {0})
-names-asked e fault = record { events = e ∷ []; answer = names_answer fault }
+abbrev pub names-asked : LiveEvent → Option NameFault → Inquiry (Unit {0})
+names-asked e fault = record { events = e ∷ []; answer = check_names_answer fault }
 
-module _ (e : Event) (fault : Option NameFault) (w : Worth) (a b : Shown) (n m : ℕ) where
+module _ (e : LiveEvent) (fault : Option NameFault) (w : ValueOrFault) (a b : LiveView) (n m : ℕ) where
   -- the result of the query, without its value, is the answer of the inquiry
   abbrev answers-names : Result Amount QueryFault → Type 0
-  answers-names r = IsInquired itself (names-asked e fault) (as_inquired (names_alone r)) a b n m
+  answers-names r = IsInquiryAnswered inquiry_identity (names-asked e fault) (inquiry_result (check_of_names_alone r)) a
+      b n m
 
-  answered : IsAfterEvents (e ∷ []) a b n m → (f : Option NameFault) (w : Worth) → f ≡ fault
-      → answers-names (by_names f w)
-  answered h (Some f) w is = (ap names_answer (sym is), h)
-  answered h None (Ok x) is = (ap names_answer (sym is), h)
-  answered h None (Err v) is = (ap names_answer (sym is), h)
+  answered : IsAfterLiveEvents (e ∷ []) a b n m → (f : Option NameFault) (w : ValueOrFault) → f ≡ fault
+      → answers-names (live_answer_of_worth f w)
+  answered h (Some f) w is = (ap check_names_answer (sym is), h)
+  answered h None (Ok x) is = (ap check_names_answer (sym is), h)
+  answered h None (Err v) is = (ap check_names_answer (sym is), h)
 
   -- the result is the fault of the names, or there is none
-  pub names-inquired : (r : Result Amount QueryFault) → IsQueryResult r (by_names fault w) → IsQuery e r a b n m
+  pub names-inquired : (r : Result Amount QueryFault) → IsLiveQueryResult r (live_answer_of_worth fault w)
+      → IsLiveQuery e r a b n m
       → answers-names r
   names-inquired (Ok x) h q = elim h [
     | inl p ↦ cc

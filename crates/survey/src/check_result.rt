@@ -3,7 +3,7 @@
 ghost use Rattle.std.specs.Prelude.{◌≡◌, position};
 ghost use Rattle.std.specs.List.{list_any};
 ghost use Rattle.frac128.specs.Sign as sign;
-ghost use Rattle.unit_list.specs.Amounts.{is_not_positive, is_unlike};
+ghost use Rattle.unit_list.specs.Amounts.{is_unit_not_positive, is_unlike_unit};
 ghost use Rattle.survey.specs.Checks as spec;
 
 use quantity::Quantity;
@@ -37,21 +37,21 @@ pub(crate) fn parts_finding(parts: &[Quantity]) -> Finding
 
 // Returns whether a part does not conform to the first.
 fn has_unlike(first: &Quantity, others: &[Quantity]) -> bool
-    ensures { result ≡ list_any (is_unlike first.now) others.now }
+    ensures { result ≡ list_any (is_unlike_unit first.now) others.now }
 {
     others.iter().any(|part| !first.conforms(part))
 }
 
 // Returns the index of the first part whose number is not above 0.
 fn first_not_positive(parts: &[Quantity]) -> Option<usize>
-    ensures { result ≡ position is_not_positive parts.now }
+    ensures { result ≡ position is_unit_not_positive parts.now }
 {
     parts.iter().position(|part| !is_positive(part))
 }
 
 // Returns whether the number of a part is above 0.
 fn is_positive(part: &Quantity) -> bool
-    ensures { result ≡ sign.is_positive part.now.value }
+    ensures { result ≡ sign.is_positive_fraction part.now.value }
 {
     part.value().num() > 0
 }

@@ -4,16 +4,16 @@ ghost use Rattle.std.specs.Prelude.{◌≡◌, ◌++◌, [], IfErr, IfOk, OnOk, 
 ghost use Rattle.std.specs.List.{flat_map};
 ghost use Rattle.std.specs.Option.{option_map};
 ghost use Rattle.def_entry.specs.declared.key.Kind.TheVariants as kinds;
-ghost use Rattle.deck.specs.KeyLists.{of_kind};
-ghost use Rattle.deck.specs.PlacedKeys.{key_there, keys_there};
+ghost use Rattle.deck.specs.KeyLists.{deck_keys_of_kind};
+ghost use Rattle.deck.specs.PlacedKeys.{deck_key_at_place, deck_keys_at_places};
 ghost use Rattle.deck.specs.Tables as tables;
 ghost use Rattle.expr_tree.specs.Syntax.{Word};
 ghost use Rattle.expr_tree.specs.Trees.{syntax};
-ghost use Rattle.live_table.specs.Calls.{AreQueries};
-ghost use Rattle.live_table.specs.TableView.{IsRightTable};
+ghost use Rattle.live_table.specs.Calls.{AreLiveQueries};
+ghost use Rattle.live_table.specs.TableView.{IsRightLiveView};
 ghost use Rattle.survey.specs.Conformable as spec;
-ghost use Rattle.survey.specs.Places.{given_by_key, unit_there};
-ghost use Rattle.survey.specs.Rows.{key_row};
+ghost use Rattle.survey.specs.Places.{conformable_unit_at_place, search_hits_of_key};
+ghost use Rattle.survey.specs.Rows.{search_hit_row_of_key};
 
 use crate::rows::{put_row_there, rows_or_none};
 use deck::Deck;
@@ -40,8 +40,9 @@ pub fn conformable_report<L: Ledger>(
     from: &Quantity,
     steps: &mut Steps<L>,
 ) -> Result<Text, AllocError>
-    ensures report { IfOk result (λ text. text ≡ spec.conformable_report (tables.table table.old.deck) from.now) }
-    ensures queries { AreQueries (spec.conformable_queries (tables.table table.old.deck)) result
+    ensures report { IfOk result
+        (λ text. text ≡ spec.conformable_report (tables.table_of_deck table.old.deck) from.now) }
+    ensures queries { AreLiveQueries (spec.conformable_queries (tables.table_of_deck table.old.deck)) result
         table.old table.new steps.old steps.new }
     ensures deck { table.new.deck ≡ table.old.deck }
 {
@@ -64,12 +65,13 @@ impl UnitSearch<'_> {
         table: &mut LiveTable,
         steps: &mut Steps<L>,
     ) -> Result<(), AllocError>
-        requires { IsRightTable table.old }
+        requires { IsRightLiveView table.old }
         ensures rows { OnOk result (rows.new.items ≡ rows.old.items
-            ++ flat_map (spec.conforming_row (tables.table table.old.deck) self.now.from.now)
-            (of_kind kinds.Unit (keys_there table.old.deck.lines self.now.places.now))) }
-        ensures queries { AreQueries
-            (spec.unit_queries (tables.table table.old.deck) (keys_there table.old.deck.lines self.now.places.now))
+            ++ flat_map (spec.conforming_row (tables.table_of_deck table.old.deck) self.now.from.now)
+            (deck_keys_of_kind kinds.Unit (deck_keys_at_places table.old.deck.lines self.now.places.now))) }
+        ensures queries { AreLiveQueries
+            (spec.unit_queries (tables.table_of_deck table.old.deck)
+            (deck_keys_at_places table.old.deck.lines self.now.places.now))
             result table.old table.new steps.old steps.new }
         ensures deck { table.new.deck ≡ table.old.deck }
     {
@@ -88,12 +90,13 @@ impl UnitSearch<'_> {
         place: usize,
         steps: &mut Steps<L>,
     ) -> Result<(), AllocError>
-        requires { IsRightTable table.old }
+        requires { IsRightLiveView table.old }
         ensures rows { OnOk result (rows.new.items ≡ rows.old.items
-            ++ given_by_key (spec.conforming_row (tables.table table.old.deck) self.now.from.now)
-            (unit_there table.old.deck place)) }
-        ensures queries { AreQueries (given_by_key (λ k. (spec.unit_worth (tables.table table.old.deck) k).events)
-            (unit_there table.old.deck place)) result table.old table.new steps.old steps.new }
+            ++ search_hits_of_key (spec.conforming_row (tables.table_of_deck table.old.deck) self.now.from.now)
+            (conformable_unit_at_place table.old.deck place)) }
+        ensures queries { AreLiveQueries
+            (search_hits_of_key (λ k. (spec.unit_worth (tables.table_of_deck table.old.deck) k).events)
+            (conformable_unit_at_place table.old.deck place)) result table.old table.new steps.old steps.new }
         ensures deck { table.new.deck ≡ table.old.deck }
     {
         let Some(word) = unit_word(alloc, table.deck(), place)? else {
@@ -107,7 +110,7 @@ impl UnitSearch<'_> {
 // Returns the word of the unit that the line at `place` defines, or `None` if it defines no unit.
 fn unit_word(alloc: Global, deck: &Deck, place: usize) -> Result<Option<Tree>, AllocError>
     ensures { IfOk result (λ word. option_map syntax word
-        ≡ option_map (λ k. Word k.name) (unit_there deck.now place)) }
+        ≡ option_map (λ k. Word k.name) (conformable_unit_at_place deck.now place)) }
 {
     let Some(key) = deck.key_at(place) else {
         return Ok(None);
@@ -128,9 +131,9 @@ fn put_if_conforming(
     found: &Result<Option<Quantity>, AllocError>,
 ) -> Result<(), AllocError>
     ensures row { OnOk result (IfOk found.now (λ value. rows.new.items ≡ rows.old.items
-        ++ (if spec.is_value_conforming from.now value
-        then given_by_key (key_row (tables.table deck.now)) (key_there deck.now.lines place)
-        else []))) }
+        ++ (if spec.is_conformable_value from.now value
+        then search_hits_of_key (search_hit_row_of_key (tables.table_of_deck deck.now))
+        (deck_key_at_place deck.now.lines place) else []))) }
     ensures memory { OnOk result (IfErr found.now (λ _. ⊥)) }
 {
     match found {
@@ -143,7 +146,8 @@ fn put_if_conforming(
 // Appends the row of the key at `place`, if it is wanted.
 fn put_row_if(rows: &mut Vec<u8>, wanted: bool, deck: &Deck, place: usize) -> Result<(), AllocError>
     ensures { OnOk result (rows.new.items ≡ rows.old.items
-        ++ (if wanted then given_by_key (key_row (tables.table deck.now)) (key_there deck.now.lines place) else [])) }
+        ++ (if wanted then search_hits_of_key (search_hit_row_of_key (tables.table_of_deck deck.now))
+        (deck_key_at_place deck.now.lines place) else [])) }
 {
     if !wanted {
         return Ok(());

@@ -3,8 +3,8 @@
 ghost use Rattle.std.specs.Prelude.{◌≡◌, ◌++◌, Err, OnOk, true};
 ghost use Rattle.live_table.specs.declared.fault.QueryFault.TheVariants.{OutOfMemory};
 ghost use Rattle.reply.specs.Faults as faults;
-ghost use Rattle.reply.specs.Inquiries.{as_answer};
-ghost use Rattle.reply.specs.Options.{IsPrintable, style_of};
+ghost use Rattle.reply.specs.Inquiries.{inquiry_answer};
+ghost use Rattle.reply.specs.Options.{AreReplyOptionsPrintable, reply_style};
 ghost use Rattle.survey.specs.Checks as spec;
 
 use crate::check_result::Finding;
@@ -23,9 +23,9 @@ pub(crate) fn put_finding(
     key: &Key,
     found: Result<Finding, QueryFault>,
 ) -> Result<(), AllocError>
-    requires { IsPrintable options.now }
+    requires { AreReplyOptionsPrintable options.now }
     ensures line { OnOk result (text.new.items
-        ≡ text.old.items ++ spec.finding_line (style_of options.now) key.now (as_answer found)) }
+        ≡ text.old.items ++ spec.finding_line (reply_style options.now) key.now (inquiry_answer found)) }
     ensures memory { OnOk result (found ≡ Err OutOfMemory → ⊥) }
 {
     match found {
@@ -52,10 +52,10 @@ fn put_fault(
     key: &Key,
     fault: &ReplyFault,
 ) -> Result<(), AllocError>
-    requires printable { IsPrintable options.now }
-    requires told { faults.is_reportable fault.now ≡ true }
+    requires printable { AreReplyOptionsPrintable options.now }
+    requires told { faults.is_reply_fault_reportable fault.now ≡ true }
     ensures { OnOk result (text.new.items
-        ≡ text.old.items ++ spec.told_line key.now (faults.fault_text (style_of options.now) fault.now)) }
+        ≡ text.old.items ++ spec.check_report_line key.now (faults.fault_text (reply_style options.now) fault.now)) }
 {
     let fault = fault_text(alloc, fault, options)?;
     put_told(text, key, fault.as_bytes())
@@ -63,7 +63,7 @@ fn put_fault(
 
 // Appends a line that reports `told` about a key.
 fn put_told(text: &mut Vec<u8>, key: &Key, told: &[u8]) -> Result<(), AllocError>
-    ensures { OnOk result (text.new.items ≡ text.old.items ++ spec.told_line key.now told.now) }
+    ensures { OnOk result (text.new.items ≡ text.old.items ++ spec.check_report_line key.now told.now) }
 {
     put_key(text, key.kind, key.name.as_bytes())?;
     text.extend_from_slice(b": ".as_slice())?;

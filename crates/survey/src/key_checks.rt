@@ -1,17 +1,17 @@
 //! The check report.
 
 ghost use Rattle.std.specs.Prelude.{◌≡◌, ◌++◌, IfOk, OnOk};
-ghost use Rattle.deck.specs.KeyLists.{table_keys};
-ghost use Rattle.deck.specs.PlacedKeys.{key_there, keys_there};
+ghost use Rattle.deck.specs.KeyLists.{deck_table_keys};
+ghost use Rattle.deck.specs.PlacedKeys.{deck_key_at_place, deck_keys_at_places};
 ghost use Rattle.deck.specs.Tables as tables;
 ghost use Rattle.def_entry.specs.declared.key.Kind.TheVariants as kinds;
-ghost use Rattle.live_table.specs.Calls.{AreQueries, all_names};
-ghost use Rattle.live_table.specs.TableView.{IsRightTable};
+ghost use Rattle.live_table.specs.Calls.{AreLiveQueries, settle_all_queries};
+ghost use Rattle.live_table.specs.TableView.{IsRightLiveView};
 ghost use Rattle.reply.specs.Calls as call;
 ghost use Rattle.reply.specs.Inquiries as inquiries;
-ghost use Rattle.reply.specs.Options.{IsPrintable, style_of};
+ghost use Rattle.reply.specs.Options.{AreReplyOptionsPrintable, reply_style};
 ghost use Rattle.survey.specs.Checks as spec;
-ghost use Rattle.survey.specs.Places.{given_by_key};
+ghost use Rattle.survey.specs.Places.{search_hits_of_key};
 
 use crate::check_result::{Finding, parts_finding};
 use crate::finding_lines::put_finding;
@@ -42,10 +42,10 @@ pub fn check_report<L: Ledger>(
     options: &Options,
     steps: &mut Steps<L>,
 ) -> Result<Text, AllocError>
-    requires { IsPrintable options.now }
+    requires { AreReplyOptionsPrintable options.now }
     ensures report { IfOk result (λ text.
-        text ≡ spec.check_report (tables.table table.old.deck) (style_of options.now)) }
-    ensures queries { AreQueries (spec.check_queries (tables.table table.old.deck)) result
+        text ≡ spec.check_report (tables.table_of_deck table.old.deck) (reply_style options.now)) }
+    ensures queries { AreLiveQueries (spec.check_queries (tables.table_of_deck table.old.deck)) result
         table.old table.new steps.old steps.new }
     ensures deck { table.new.deck ≡ table.old.deck }
 {
@@ -66,9 +66,9 @@ pub fn check_places<L: Ledger>(
     table: &mut LiveTable,
     steps: &mut Steps<L>,
 ) -> Result<Vec<usize>, AllocError>
-    ensures keys { IfOk result (λ places. keys_there table.old.deck.lines places.items
-        ≡ table_keys (tables.table table.old.deck)) }
-    ensures queries { AreQueries (all_names (tables.table table.old.deck)) result
+    ensures keys { IfOk result (λ places. deck_keys_at_places table.old.deck.lines places.items
+        ≡ deck_table_keys (tables.table_of_deck table.old.deck)) }
+    ensures queries { AreLiveQueries (settle_all_queries (tables.table_of_deck table.old.deck)) result
         table.old table.new steps.old steps.new }
     ensures deck { table.new.deck ≡ table.old.deck }
 {
@@ -86,13 +86,14 @@ impl KeyCheck<'_> {
         table: &mut LiveTable,
         steps: &mut Steps<L>,
     ) -> Result<(), AllocError>
-        requires printable { IsPrintable self.now.options.now }
-        requires right { IsRightTable table.old }
+        requires printable { AreReplyOptionsPrintable self.now.options.now }
+        requires right { IsRightLiveView table.old }
         ensures lines { OnOk result (lines.new.items ≡ lines.old.items
-            ++ spec.check_among (tables.table table.old.deck) (style_of self.now.options.now)
-            (keys_there table.old.deck.lines self.now.places.now)) }
-        ensures queries { AreQueries
-            (spec.queries_among (tables.table table.old.deck) (keys_there table.old.deck.lines self.now.places.now))
+            ++ spec.check_among (tables.table_of_deck table.old.deck) (reply_style self.now.options.now)
+            (deck_keys_at_places table.old.deck.lines self.now.places.now)) }
+        ensures queries { AreLiveQueries
+            (spec.queries_among (tables.table_of_deck table.old.deck)
+            (deck_keys_at_places table.old.deck.lines self.now.places.now))
             result table.old table.new steps.old steps.new }
         ensures deck { table.new.deck ≡ table.old.deck }
     {
@@ -111,13 +112,14 @@ impl KeyCheck<'_> {
         place: usize,
         steps: &mut Steps<L>,
     ) -> Result<(), AllocError>
-        requires printable { IsPrintable self.now.options.now }
-        requires right { IsRightTable table.old }
+        requires printable { AreReplyOptionsPrintable self.now.options.now }
+        requires right { IsRightLiveView table.old }
         ensures line { OnOk result (lines.new.items ≡ lines.old.items
-            ++ given_by_key (spec.check_line (tables.table table.old.deck) (style_of self.now.options.now))
-            (key_there table.old.deck.lines place)) }
-        ensures queries { AreQueries (given_by_key (λ k. (spec.key_finding (tables.table table.old.deck) k).events)
-            (key_there table.old.deck.lines place)) result table.old table.new steps.old steps.new }
+            ++ search_hits_of_key (spec.check_line (tables.table_of_deck table.old.deck)
+            (reply_style self.now.options.now)) (deck_key_at_place table.old.deck.lines place)) }
+        ensures queries { AreLiveQueries
+            (search_hits_of_key (λ k. (spec.key_finding (tables.table_of_deck table.old.deck) k).events)
+            (deck_key_at_place table.old.deck.lines place)) result table.old table.new steps.old steps.new }
         ensures deck { table.new.deck ≡ table.old.deck }
     {
         let Some(key) = table.deck().key_at(place) else {
@@ -136,11 +138,11 @@ impl KeyCheck<'_> {
         key: &Key,
         steps: &mut Steps<L>,
     ) -> Result<(), AllocError>
-        requires printable { IsPrintable self.now.options.now }
-        requires right { IsRightTable table.old }
+        requires printable { AreReplyOptionsPrintable self.now.options.now }
+        requires right { IsRightLiveView table.old }
         ensures line { OnOk result (lines.new.items ≡ lines.old.items
-            ++ spec.check_line (tables.table table.old.deck) (style_of self.now.options.now) key.now) }
-        ensures queries { AreQueries (spec.key_finding (tables.table table.old.deck) key.now).events result
+            ++ spec.check_line (tables.table_of_deck table.old.deck) (reply_style self.now.options.now) key.now) }
+        ensures queries { AreLiveQueries (spec.key_finding (tables.table_of_deck table.old.deck) key.now).events result
             table.old table.new steps.old steps.new }
         ensures deck { table.new.deck ≡ table.old.deck }
     {
@@ -156,9 +158,10 @@ fn check_key<L: Ledger>(
     key: &Key,
     steps: &mut Steps<L>,
 ) -> Result<Finding, QueryFault>
-    requires { IsRightTable table.old }
-    ensures inquired { call.IsInquired call.itself (spec.key_finding (tables.table table.old.deck) key.now)
-        (call.as_inquired result) table.old table.new steps.old steps.new }
+    requires { IsRightLiveView table.old }
+    ensures inquired { call.IsInquiryAnswered call.inquiry_identity
+        (spec.key_finding (tables.table_of_deck table.old.deck) key.now)
+        (call.inquiry_result result) table.old table.new steps.old steps.new }
     ensures deck { table.new.deck ≡ table.old.deck }
 {
     let trees = valued_trees(alloc, table.deck(), key)?;
@@ -178,9 +181,9 @@ fn unit_checked<L: Ledger>(
     trees: &[Tree],
     steps: &mut Steps<L>,
 ) -> Result<Finding, QueryFault>
-    ensures inquired { call.IsInquired call.itself (spec.sound_finding
-        (inquiries.worths (tables.table table.old.deck) (call.syntaxes_of trees.now))) (call.as_inquired result)
-        table.old table.new steps.old steps.new }
+    ensures inquired { call.IsInquiryAnswered call.inquiry_identity (spec.sound_finding
+        (inquiries.worths (tables.table_of_deck table.old.deck) (call.inquiry_syntaxes trees.now)))
+        (call.inquiry_result result) table.old table.new steps.old steps.new }
     ensures deck { table.new.deck ≡ table.old.deck }
 {
     evaluate_texts(alloc, table, trees, steps)?;
@@ -195,9 +198,10 @@ fn prefix_checked<L: Ledger>(
     trees: &[Tree],
     steps: &mut Steps<L>,
 ) -> Result<Finding, QueryFault>
-    ensures inquired { call.IsInquired call.itself (spec.checked_by (tables.table table.old.deck) kinds.Prefix key.now
-        (inquiries.worths (tables.table table.old.deck) (call.syntaxes_of trees.now))) (call.as_inquired result)
-        table.old table.new steps.old steps.new }
+    ensures inquired { call.IsInquiryAnswered call.inquiry_identity
+        (spec.checked_by (tables.table_of_deck table.old.deck) kinds.Prefix key.now
+        (inquiries.worths (tables.table_of_deck table.old.deck) (call.inquiry_syntaxes trees.now)))
+        (call.inquiry_result result) table.old table.new steps.old steps.new }
     ensures deck { table.new.deck ≡ table.old.deck }
 {
     match evaluate_texts(alloc, table, trees, steps) {
@@ -215,10 +219,11 @@ fn function_checked<L: Ledger>(
     trees: &[Tree],
     steps: &mut Steps<L>,
 ) -> Result<Finding, QueryFault>
-    requires { IsRightTable table.old }
-    ensures inquired { call.IsInquired call.itself (spec.checked_by (tables.table table.old.deck) kinds.Func key.now
-        (inquiries.worths (tables.table table.old.deck) (call.syntaxes_of trees.now))) (call.as_inquired result)
-        table.old table.new steps.old steps.new }
+    requires { IsRightLiveView table.old }
+    ensures inquired { call.IsInquiryAnswered call.inquiry_identity
+        (spec.checked_by (tables.table_of_deck table.old.deck) kinds.Func key.now
+        (inquiries.worths (tables.table_of_deck table.old.deck) (call.inquiry_syntaxes trees.now)))
+        (call.inquiry_result result) table.old table.new steps.old steps.new }
     ensures deck { table.new.deck ≡ table.old.deck }
 {
     ask_function(alloc, table, key, steps)?;
@@ -233,9 +238,9 @@ fn list_checked<L: Ledger>(
     trees: &[Tree],
     steps: &mut Steps<L>,
 ) -> Result<Finding, QueryFault>
-    ensures inquired { call.IsInquired call.itself (spec.list_finding
-        (inquiries.worths (tables.table table.old.deck) (call.syntaxes_of trees.now))) (call.as_inquired result)
-        table.old table.new steps.old steps.new }
+    ensures inquired { call.IsInquiryAnswered call.inquiry_identity (spec.list_finding
+        (inquiries.worths (tables.table_of_deck table.old.deck) (call.inquiry_syntaxes trees.now)))
+        (call.inquiry_result result) table.old table.new steps.old steps.new }
     ensures deck { table.new.deck ≡ table.old.deck }
 {
     let parts = evaluate_texts(alloc, table, trees, steps)?;

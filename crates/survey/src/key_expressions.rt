@@ -3,10 +3,10 @@
 ghost use Rattle.std.specs.Prelude.{◌≡◌, ◌++◌, ◌∷◌, [], IfOk, OnOk};
 ghost use Rattle.std.specs.Option.{option_map};
 ghost use Rattle.def_entry.specs.Tables.{entry_at};
-ghost use Rattle.def_entry.specs.Views.{what_view};
+ghost use Rattle.def_entry.specs.Views.{entry_definition_view};
 ghost use Rattle.deck.specs.Tables as tables;
 ghost use Rattle.expr_tree.specs.Trees.{syntax};
-ghost use Rattle.reply.specs.Calls.{syntaxes_of};
+ghost use Rattle.reply.specs.Calls.{inquiry_syntaxes};
 ghost use Rattle.survey.specs.Checks as spec;
 
 use deck::Deck;
@@ -17,8 +17,8 @@ use std::alloc::{AllocError, Global};
 /// Returns the expressions of a key that must have values: the word of a unit, the body of a prefix, the units of a
 /// function, the parts of a list.
 pub(crate) fn valued_trees(alloc: Global, deck: &Deck, key: &Key) -> Result<Vec<Tree>, AllocError>
-    ensures { IfOk result (λ trees. syntaxes_of trees.items
-        ≡ spec.value_expressions key.now key.now.kind (entry_at (tables.table deck.now) key.now)) }
+    ensures { IfOk result (λ trees. inquiry_syntaxes trees.items
+        ≡ spec.checked_value_expressions key.now key.now.kind (entry_at (tables.table_of_deck deck.now) key.now)) }
 {
     let mut trees = Vec::new(alloc);
     match key.kind {
@@ -35,8 +35,9 @@ fn put_entry_trees(
     deck: &Deck,
     key: &Key,
 ) -> Result<(), AllocError>
-    ensures { OnOk result (syntaxes_of trees.new.items
-        ≡ syntaxes_of trees.old.items ++ spec.trees_at (entry_at (tables.table deck.now) key.now)) }
+    ensures { OnOk result (inquiry_syntaxes trees.new.items
+        ≡ inquiry_syntaxes trees.old.items
+        ++ spec.checked_entry_trees (entry_at (tables.table_of_deck deck.now) key.now)) }
 {
     match deck.entry(key.kind, key.name.as_bytes()) {
         Some(entry) => put_trees_of(alloc, trees, entry.what),
@@ -46,8 +47,8 @@ fn put_entry_trees(
 
 // Appends the expressions in the definition of a key.
 fn put_trees_of(alloc: Global, trees: &mut Vec<Tree>, what: &What) -> Result<(), AllocError>
-    ensures { OnOk result (syntaxes_of trees.new.items
-        ≡ syntaxes_of trees.old.items ++ spec.key_trees (what_view what.now)) }
+    ensures { OnOk result (inquiry_syntaxes trees.new.items
+        ≡ inquiry_syntaxes trees.old.items ++ spec.checked_key_trees (entry_definition_view what.now)) }
 {
     match what {
         What::Body(tree) => put_tree(alloc, trees, tree),
@@ -63,7 +64,8 @@ fn put_trees_of(alloc: Global, trees: &mut Vec<Tree>, what: &What) -> Result<(),
 
 // Appends copies of trees.
 fn put_trees(alloc: Global, trees: &mut Vec<Tree>, further: &[Tree]) -> Result<(), AllocError>
-    ensures { OnOk result (syntaxes_of trees.new.items ≡ syntaxes_of trees.old.items ++ syntaxes_of further.now) }
+    ensures { OnOk result (inquiry_syntaxes trees.new.items ≡ inquiry_syntaxes trees.old.items
+        ++ inquiry_syntaxes further.now) }
 {
     for tree in further {
         put_tree(alloc, trees, tree)?;
@@ -73,8 +75,8 @@ fn put_trees(alloc: Global, trees: &mut Vec<Tree>, further: &[Tree]) -> Result<(
 
 // Appends a copy of a tree, if there is one.
 fn put_if_some(alloc: Global, trees: &mut Vec<Tree>, tree: &Option<Tree>) -> Result<(), AllocError>
-    ensures { OnOk result (syntaxes_of trees.new.items
-        ≡ syntaxes_of trees.old.items ++ spec.tree_if (option_map syntax tree.now)) }
+    ensures { OnOk result (inquiry_syntaxes trees.new.items
+        ≡ inquiry_syntaxes trees.old.items ++ spec.checked_tree_if_any (option_map syntax tree.now)) }
 {
     match tree {
         Some(tree) => put_tree(alloc, trees, tree),
@@ -84,7 +86,8 @@ fn put_if_some(alloc: Global, trees: &mut Vec<Tree>, tree: &Option<Tree>) -> Res
 
 // Appends a copy of a tree.
 fn put_tree(alloc: Global, trees: &mut Vec<Tree>, tree: &Tree) -> Result<(), AllocError>
-    ensures { OnOk result (syntaxes_of trees.new.items ≡ syntaxes_of trees.old.items ++ syntax tree.now ∷ []) }
+    ensures { OnOk result (inquiry_syntaxes trees.new.items ≡ inquiry_syntaxes trees.old.items ++ syntax tree.now
+        ∷ []) }
 {
     trees.push(tree.copy(alloc)?)?;
     Ok(())

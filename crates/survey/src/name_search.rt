@@ -2,9 +2,9 @@
 
 ghost use Rattle.std.specs.Prelude.{◌≡◌, ◌++◌, IfOk, OnOk};
 ghost use Rattle.std.specs.List.{flat_map};
-ghost use Rattle.deck.specs.PlacedKeys.{keys_there};
+ghost use Rattle.deck.specs.PlacedKeys.{deck_keys_at_places};
 ghost use Rattle.deck.specs.Tables as tables;
-ghost use Rattle.survey.specs.Rows.{key_row};
+ghost use Rattle.survey.specs.Rows.{search_hit_row_of_key};
 ghost use Rattle.survey.specs.Searches as spec;
 
 use crate::rows::{put_row_there, rows_or_none};
@@ -16,7 +16,7 @@ use units_io::Text;
 /// Returns a row for each key whose name contains the text, in the order of keys, or one line that says that there is
 /// none. The only error is running out of memory.
 pub fn search_report(alloc: Global, table: &LiveTable, text: &[u8]) -> Result<Text, AllocError>
-    ensures { IfOk result (λ report. report ≡ spec.search_report (tables.table table.now.deck) text.now) }
+    ensures { IfOk result (λ report. report ≡ spec.search_report (tables.table_of_deck table.now.deck) text.now) }
 {
     let deck = table.deck();
     let places = deck.key_places_holding(alloc, text)?;
@@ -28,7 +28,8 @@ pub fn search_report(alloc: Global, table: &LiveTable, text: &[u8]) -> Result<Te
 // Appends the row of each key at `places`.
 fn put_rows(rows: &mut Vec<u8>, deck: &Deck, places: &[usize]) -> Result<(), AllocError>
     ensures { OnOk result (rows.new.items ≡ rows.old.items
-        ++ flat_map (key_row (tables.table deck.now)) (keys_there deck.now.lines places.now)) }
+        ++ flat_map (search_hit_row_of_key (tables.table_of_deck deck.now))
+        (deck_keys_at_places deck.now.lines places.now)) }
 {
     for place in places {
         put_row_there(rows, deck, *place)?;

@@ -16,7 +16,7 @@ pub(crate) fn prefix_fault(
     prefix: &Key,
     fault: NameFault,
 ) -> Result<NameFault, AllocError>
-    ensures { IfOk result (λ told. told ≡ spec.prefix_fault prefix.now fault) }
+    ensures { IfOk result (λ told. told ≡ spec.checked_prefix_fault prefix.now fault) }
 {
     match fault {
         NameFault::Unknown(word, None) => Ok(NameFault::Unknown(
@@ -34,7 +34,7 @@ pub(crate) fn prefix_fault(
 
 // Turns a chain so that it begins and ends with a key, if it contains that key.
 fn turn_chain(alloc: Global, key: &Key, chain: Keys) -> Result<Keys, AllocError>
-    ensures { IfOk result (λ keys. keys ≡ spec.chain_from_key key.now chain) }
+    ensures { IfOk result (λ keys. keys ≡ spec.checked_chain_from_key key.now chain) }
 {
     match place_of(key, chain.as_slice()) {
         Some(place) => turned_to(alloc, place, chain.as_slice()),
@@ -65,14 +65,14 @@ fn put_copies(alloc: Global, keys: &mut Keys, further: &[Key]) -> Result<(), All
 
 // Returns the first index of a key in a chain.
 fn place_of(key: &Key, chain: &[Key]) -> Option<usize>
-    ensures { result ≡ position (same_keys.is_same key.now) chain.now }
+    ensures { result ≡ position (same_keys.is_same_entry_key key.now) chain.now }
 {
     chain.iter().position(|other| is_same(key, other))
 }
 
 // Returns whether two keys have the same kind and the same name.
 fn is_same(key: &Key, other: &Key) -> bool
-    ensures { result ≡ same_keys.is_same key.now other.now }
+    ensures { result ≡ same_keys.is_same_entry_key key.now other.now }
 {
     key.kind == other.kind && key.name.as_bytes() == other.name.as_bytes()
 }

@@ -2,9 +2,9 @@
 
 ghost use Rattle.std.specs.Prelude.{◌≡◌, IfOk};
 ghost use Rattle.deck.specs.Tables as tables;
-ghost use Rattle.live_table.specs.Calls.{AreQueries};
-ghost use Rattle.live_table.specs.TableView.{IsRightTable};
-ghost use Rattle.reply.specs.Options.{IsPrintable};
+ghost use Rattle.live_table.specs.Calls.{AreLiveQueries};
+ghost use Rattle.live_table.specs.TableView.{IsRightLiveView};
+ghost use Rattle.reply.specs.Options.{AreReplyOptionsPrintable};
 ghost use Rattle.survey.specs.ConversionReplies as spec;
 
 use crate::conformable_units::conformable_report;
@@ -23,10 +23,11 @@ pub fn conformable_reply<L: Ledger>(
     from: &[u8],
     steps: &mut Steps<L>,
 ) -> Result<Reply, AllocError>
-    requires { IsPrintable options.now }
+    requires { AreReplyOptionsPrintable options.now }
     ensures reply { IfOk result (λ reply.
-        reply ≡ (spec.asked_conformable (tables.table table.old.deck) options.now from.now).reply) }
-    ensures queries { AreQueries (spec.asked_conformable (tables.table table.old.deck) options.now from.now).queries
+        reply ≡ (spec.asked_conformable (tables.table_of_deck table.old.deck) options.now from.now).reply) }
+    ensures queries { AreLiveQueries
+        (spec.asked_conformable (tables.table_of_deck table.old.deck) options.now from.now).queries
         result table.old table.new steps.old steps.new }
     ensures deck { table.new.deck ≡ table.old.deck }
 {
@@ -41,10 +42,10 @@ fn conformable_to<L: Ledger>(
     value: FromValue,
     steps: &mut Steps<L>,
 ) -> Result<Reply, AllocError>
-    requires { IsRightTable table.old }
+    requires { IsRightLiveView table.old }
     ensures reply { IfOk result (λ reply.
-        reply ≡ (spec.conformable_to (tables.table table.old.deck) value).reply) }
-    ensures queries { AreQueries (spec.conformable_to (tables.table table.old.deck) value).queries
+        reply ≡ (spec.conformable_to (tables.table_of_deck table.old.deck) value).reply) }
+    ensures queries { AreLiveQueries (spec.conformable_to (tables.table_of_deck table.old.deck) value).queries
         result table.old table.new steps.old steps.new }
     ensures deck { table.new.deck ≡ table.old.deck }
 {
@@ -59,7 +60,7 @@ fn conformable_to<L: Ledger>(
 
 // Returns the reply that consists of the text of a fault.
 fn fault_reply(fault: Text) -> Result<Reply, AllocError>
-    ensures { IfOk result (λ reply. reply ≡ spec.fault_reply fault) }
+    ensures { IfOk result (λ reply. reply ≡ spec.survey_fault_reply fault) }
 {
     let mut text = fault.into_bytes();
     text.push(b'\n')?;

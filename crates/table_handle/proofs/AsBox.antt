@@ -12,7 +12,12 @@ use Rattle.table_handle.specs.contracts.parts.Parts as Parts
 use Rattle.table_handle.specs.contracts.handle.Handle as Handle
 
 abbrev pub E : Bx
-E = record { row = EditedTable.the_row; laws = edited_table.the_row_laws; al = record { row = Heap.the_row; laws = heap.the_row_laws; g = ghosts; d = dict; drops = impl [] tnil dnil } }
+E = record {
+  row = EditedTable.the_row;
+  laws = edited_table.the_row_laws;
+  al = record
+      { row = Heap.the_row; laws = heap.the_row_laws; g = ghosts; d = dict; drops = impl [] tnil dnil };
+}
 
 abbrev pub FromParts : Slot 0
 FromParts = plain (λ _. Parts.the_row EditedTable.the_row Heap.the_row ghosts)

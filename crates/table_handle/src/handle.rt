@@ -1,8 +1,8 @@
 //! An edited table behind a nullable pointer.
 
 ghost use Rattle.std.specs.Prelude.{◌≡◌, IfOk, Option, None, Some};
-ghost use Rattle.edited_table.specs.TableValue.{Edited};
-ghost use Rattle.table_handle.specs.HandleResources.{edited_coded, handle_owns};
+ghost use Rattle.edited_table.specs.TableValue.{EditedTableView};
+ghost use Rattle.table_handle.specs.HandleResources.{coded_handle_table, handle_owns};
 
 use crate::parts::Parts;
 use edited_table::EditedTable;
@@ -19,7 +19,7 @@ use std::ptr::null_mut;
 pub struct Handle {
     at: *mut u8,
     alloc: Global,
-    pub ghost held: { Option Edited } by { edited_coded },
+    pub ghost held: { Option EditedTableView } by { coded_handle_table },
 }
 
 impl Model for Handle {

@@ -1,6 +1,5 @@
 -- Members of lists, and of lists that are made from lists.
-use Rattle.std.proofs.Common.{◌≡◌, List, [], ◌∷◌}
-use Rattle.std.proofs.Common.{Contains, Option, Some, None, refl, sym, subst, inl, inr}
+use Rattle.std.proofs.Common.{◌≡◌, List, [], ◌∷◌, Contains, Option, Some, None, refl, sym, subst, inl, inr}
 use Rattle.std.specs.Option.{option_or}
 use Rattle.name_walk.specs.Lists.{first_some}
 use Rattle.general_lemmas.proofs.Members.{no_member, member_first, member_later, member_cases}

@@ -9,24 +9,22 @@ use Rattle.std.proofs.lemmas.Option.{same_Some}
 use Rattle.expr_tree.specs.declared.word_list.WordUse.{WordUse}
 use Rattle.expr_tree.specs.Names.{is_refused}
 use Rattle.def_entry.specs.declared.key.Key.{Key}
-use Rattle.def_entry.specs.SameKeys.{is_key_among}
-use Rattle.def_entry.specs.Tables.{Table, is_present}
+use Rattle.def_entry.specs.SameKeys.{is_entry_key_among}
+use Rattle.def_entry.specs.Tables.{EntryTable, is_entry_present}
 use Rattle.name_walk.specs.Lists.{first_some}
 use Rattle.table_names.specs.declared.fault.NameFault.{NameFault}
 use Rattle.table_names.specs.declared.fault.NameFault.TheVariants.{Cycle, Refused}
-use Rattle.table_names.specs.FaultLaws.{IsKeyPath}
-use Rattle.table_names.specs.Faults.{Deeper, cycle_chain, key_fault_within, target_fault}
-use Rattle.table_names.specs.Faults.{targets_fault}
-use Rattle.table_names.specs.Faults.{words_fault}
-use Rattle.table_names.specs.Faults.{word_fault}
-use Rattle.table_names.specs.Leads.{targets}
+use Rattle.table_names.specs.FaultLaws.{IsNameFaultPath}
+use Rattle.table_names.specs.Faults.{DeeperNameFault, key_fault_within, name_fault_cycle_chain, target_fault}
+use Rattle.table_names.specs.Faults.{targets_fault, words_fault, word_fault}
+use Rattle.table_names.specs.Leads.{table_word_targets}
 use Rattle.table_names.specs.Meets.{AreClean, AreCleanKeys, AtRefusedName, AtTargets, AtUnknownWord, InEntry}
 use Rattle.table_names.specs.Meets.{InOtherKeys}
 use Rattle.table_names.specs.Meets.{InOtherWords, MeetKeys, Meets, NextKey, NextWord, NoKey, NoWord, OnPath}
 use Rattle.table_names.specs.MeetsLaws.{MeetsLaw}
-use Rattle.table_names.specs.Words.{key_words}
+use Rattle.table_names.specs.Words.{table_words_of_key}
 use Rattle.table_names.proofs.Lookups.{target_present}
-use Rattle.table_names.proofs.OneFault.{fault_law}
+use Rattle.table_names.proofs.OneFault.{words_name_fault_law}
 use Rattle.table_names.proofs.Paths.{empty_is_path, longer, path_fits_table}
 use Rattle.general_lemmas.proofs.Members.{no_member, member_first, member_later, member_cases}
 use Rattle.general_lemmas.proofs.Options.{none_first}
@@ -34,10 +32,10 @@ use Rattle.general_lemmas.proofs.Options.{none_first}
 none_some : {A : Type 0} (o : Option A) (x : A) → o ≡ None → o ≡ Some x → ⊥
 none_some o x e f = cc
 
-module _ (table : Table) where
+module _ (table : EntryTable) where
   -- the fault of the words in the entry of a target
-  abbrev deep : Deeper
-  deep path n = words_fault table path (key_words table n)
+  abbrev deep : DeeperNameFault
+  deep path n = words_fault table path (table_words_of_key table n)
 
   abbrev here : List Key → WordUse → Option NameFault
   here path u = word_fault table deep path u
@@ -46,19 +44,19 @@ module _ (table : Table) where
   at_keys path ns = first_some (target_fault table deep path) ns
 
   -- the fault of words is that of the first word, or else that of the rest
-  in_order : (path : List Key) (u : WordUse) (us : List WordUse) → IsKeyPath table path
+  in_order : (path : List Key) (u : WordUse) (us : List WordUse) → IsNameFaultPath table path
       → words_fault table path (u ∷ us) ≡ option_or (here path u) (words_fault table path us)
   in_order path u us p =
-      fault_law.first_fault_is table path (u ∷ us) p
-      ∙ ap (option_or (here path u)) (sym (fault_law.first_fault_is table path us p))
+      words_name_fault_law.first_fault_is table path (u ∷ us) p
+      ∙ ap (option_or (here path u)) (sym (words_name_fault_law.first_fault_is table path us p))
 
-  of_word : (path : List Key) (u : WordUse) (us : List WordUse) (o : Option NameFault) → IsKeyPath table path
+  of_word : (path : List Key) (u : WordUse) (us : List WordUse) (o : Option NameFault) → IsNameFaultPath table path
       → here path u ≡ o → words_fault table path (u ∷ us) ≡ option_or o (words_fault table path us)
   of_word path u us o p e = in_order path u us p ∙ ap (λ x. option_or x (words_fault table path us)) e
 
   -- a word that is not refused meets the fault of its targets
   at_targets : (path : List Key) (u : WordUse) (o : Option NameFault) → is_refused u.text ≡ false
-      → targets_fault table deep path u (targets table u) ≡ o → here path u ≡ o
+      → targets_fault table deep path u (table_word_targets table u) ≡ o → here path u ≡ o
   at_targets path u o r e = cond-false (is_refused u.text) _ _ r ∙ e
 
   some_keys : (path : List Key) (u : WordUse) (ns : List Key) (f : NameFault) → at_keys path ns ≡ Some f
@@ -72,29 +70,31 @@ module _ (table : Table) where
   none_keys path u (n ∷ ns) some e = e
 
   abbrev ArePresent : List Key → Type 0
-  ArePresent ns = (n : Key) → Contains ns n → is_present table n ≡ true
+  ArePresent ns = (n : Key) → Contains ns n → is_entry_present table n ≡ true
 
   -- ---- each fault by the rules is the computed fault
   mutual
-    clean : {path : List Key} {words : List WordUse} → AreClean table path words → IsKeyPath table path
+    clean : {path : List Key} {words : List WordUse} → AreClean table path words → IsNameFaultPath table path
         → words_fault table path words ≡ None
     clean NoWord p = refl
     clean {path} (NextWord {u = u} {us = us} r some ks c) p =
         of_word path u us None p
-        (at_targets path u None r (none_keys path u (targets table u) some (clean_keys ks p (target_present table u))))
+        (at_targets path u None r
+        (none_keys path u (table_word_targets table u) some (clean_keys ks p (target_present table u))))
         ∙ clean c p
 
-    clean_keys : {path ns : List Key} → AreCleanKeys table path ns → IsKeyPath table path → ArePresent ns
+    clean_keys : {path ns : List Key} → AreCleanKeys table path ns → IsNameFaultPath table path → ArePresent ns
         → at_keys path ns ≡ None
     clean_keys NoKey p there = refl
     clean_keys {path} (NextKey {n = n} {ns = ns} off c ks) p there =
         ap (λ x. option_or x (at_keys path ns))
-        (cond-false (is_key_among path n) _ _ off
+        (cond-false (is_entry_key_among path n) _ _ off
         ∙ clean c (longer table path n p off (there n (member_first n n ns refl))))
         ∙ clean_keys ks p (λ m i. there m (member_later m n ns i))
 
   mutual
-    met : {path : List Key} {words : List WordUse} {f : NameFault} → Meets table path words f → IsKeyPath table path
+    met : {path : List Key} {words : List WordUse} {f : NameFault} → Meets table path words f
+        → IsNameFaultPath table path
         → words_fault table path words ≡ Some f
     met {path} {words} {f} (AtRefusedName {u = u} {us = us} r e) p =
         of_word path u us (Some f) p (cond-true (is_refused u.text) _ _ r ∙ ap Some (sym e))
@@ -104,19 +104,20 @@ module _ (table : Table) where
     met {path} {words} {f} (AtTargets {u = u} {us = us} r ks) p =
         of_word path u us (Some f) p
         (at_targets path u (Some f) r
-        (some_keys path u (targets table u) f (met_keys ks p (target_present table u))))
+        (some_keys path u (table_word_targets table u) f (met_keys ks p (target_present table u))))
     met {path} {words} {f} (InOtherWords {u = u} {us = us} c ms) p =
         of_word path u us None p
         (none_first (here path u) (words_fault table path []) (sym (in_order path u [] p) ∙ clean c p))
         ∙ met ms p
 
-    met_keys : {path ns : List Key} {f : NameFault} → MeetKeys table path ns f → IsKeyPath table path → ArePresent ns
+    met_keys : {path ns : List Key} {f : NameFault} → MeetKeys table path ns f → IsNameFaultPath table path
+        → ArePresent ns
         → at_keys path ns ≡ Some f
     met_keys {path} (OnPath {n = n} {ns = ns} on e) p there =
-        ap (λ x. option_or x (at_keys path ns)) (cond-true (is_key_among path n) _ _ on ∙ ap Some (sym e))
+        ap (λ x. option_or x (at_keys path ns)) (cond-true (is_entry_key_among path n) _ _ on ∙ ap Some (sym e))
     met_keys {path} (InEntry {n = n} {ns = ns} off ms) p there =
         ap (λ x. option_or x (at_keys path ns))
-        (cond-false (is_key_among path n) _ _ off
+        (cond-false (is_entry_key_among path n) _ _ off
         ∙ met ms (longer table path n p off (there n (member_first n n ns refl))))
     met_keys {path} (InOtherKeys {n = n} {ns = ns} c ks) p there =
         ap (λ x. option_or x (at_keys path ns))
@@ -138,25 +139,26 @@ module _ (table : Table) where
   ToldKeys path ns (Some f) = MeetKeys table path ns f
 
   -- the faults in the entries of further targets follow from the rules
-  abbrev Goes : Deeper → List Key → Type 0
-  Goes F path = (n : Key) → is_key_among path n ≡ false → is_present table n ≡ true
-      → Told (path ++ n ∷ []) (key_words table n) (F (path ++ n ∷ []) n)
+  abbrev Goes : DeeperNameFault → List Key → Type 0
+  Goes F path = (n : Key) → is_entry_key_among path n ≡ false → is_entry_present table n ≡ true
+      → Told (path ++ n ∷ []) (table_words_of_key table n) (F (path ++ n ∷ []) n)
 
-  key_joined : (path ns : List Key) (n : Key) (o q : Option NameFault) → is_key_among path n ≡ false
-      → Told (path ++ n ∷ []) (key_words table n) o → ToldKeys path ns q → ToldKeys path (n ∷ ns) (option_or o q)
+  key_joined : (path ns : List Key) (n : Key) (o q : Option NameFault) → is_entry_key_among path n ≡ false
+      → Told (path ++ n ∷ []) (table_words_of_key table n) o → ToldKeys path ns q
+      → ToldKeys path (n ∷ ns) (option_or o q)
   key_joined path ns n None None off c d = NextKey off c d
   key_joined path ns n None (Some f) off c m = InOtherKeys (NextKey off c NoKey) m
   key_joined path ns n (Some f) q off m d = InEntry off m
 
-  told_keys : (F : Deeper) (path ns : List Key) → Goes F path → ArePresent ns
+  told_keys : (F : DeeperNameFault) (path ns : List Key) → Goes F path → ArePresent ns
       → ToldKeys path ns (first_some (target_fault table F path) ns)
   told_keys F path [] deeper there = NoKey
   told_keys F path (n ∷ ns) deeper there =
-      by (told_keys F path ns deeper (λ m i. there m (member_later m n ns i))) (is_key_among path n) refl
+      by (told_keys F path ns deeper (λ m i. there m (member_later m n ns i))) (is_entry_key_among path n) refl
     where
-      by : ToldKeys path ns (first_some (target_fault table F path) ns) → (b : Bool) → is_key_among path n ≡ b
+      by : ToldKeys path ns (first_some (target_fault table F path) ns) → (b : Bool) → is_entry_key_among path n ≡ b
           → ToldKeys path (n ∷ ns)
-          (option_or (cond b (Some (Cycle (cycle_chain n path))) (F (path ++ n ∷ []) n))
+          (option_or (cond b (Some (Cycle (name_fault_cycle_chain n path))) (F (path ++ n ∷ []) n))
           (first_some (target_fault table F path) ns))
       by rest true q = OnPath q refl
       by rest false q =
@@ -164,7 +166,7 @@ module _ (table : Table) where
           (deeper n q (there n (member_first n n ns refl))) rest
 
   word_joined : (path ns : List Key) (u : WordUse) (us : List WordUse) (o q : Option NameFault)
-      → is_refused u.text ≡ false → ns ≢ [] → targets table u ≡ ns → ToldKeys path ns o → Told path us q
+      → is_refused u.text ≡ false → ns ≢ [] → table_word_targets table u ≡ ns → ToldKeys path ns o → Told path us q
       → Told path (u ∷ us) (option_or o q)
   word_joined path ns u us None None r some e c d =
       NextWord r (subst (λ x. x ≢ []) (sym e) some) (subst (AreCleanKeys table path) (sym e) c) d
@@ -172,7 +174,7 @@ module _ (table : Table) where
       InOtherWords (NextWord r (subst (λ x. x ≢ []) (sym e) some) (subst (AreCleanKeys table path) (sym e) c) NoWord) m
   word_joined path ns u us (Some f) q r some e m d = AtTargets r (subst (λ x. MeetKeys table path x f) (sym e) m)
 
-  told_words : (F : Deeper) (path : List Key) (words : List WordUse) → Goes F path
+  told_words : (F : DeeperNameFault) (path : List Key) (words : List WordUse) → Goes F path
       → Told path words (first_some (word_fault table F path) words)
   told_words F path [] deeper = NoWord
   told_words F path (u ∷ us) deeper = by (told_words F path us deeper) (is_refused u.text) refl
@@ -180,7 +182,7 @@ module _ (table : Table) where
       behind : Option NameFault
       behind = first_some (word_fault table F path) us
 
-      at : Told path us behind → (ns : List Key) → is_refused u.text ≡ false → targets table u ≡ ns
+      at : Told path us behind → (ns : List Key) → is_refused u.text ≡ false → table_word_targets table u ≡ ns
           → Told path (u ∷ us) (option_or (targets_fault table F path u ns) behind)
       at rest [] r e = AtUnknownWord r e refl
       at rest (n ∷ ns) r e =
@@ -189,19 +191,19 @@ module _ (table : Table) where
 
       by : Told path us behind → (b : Bool) → is_refused u.text ≡ b
           → Told path (u ∷ us) (option_or (cond b (Some (Refused u.text (last_or None path)))
-          (targets_fault table F path u (targets table u))) behind)
+          (targets_fault table F path u (table_word_targets table u))) behind)
       by rest true r = AtRefusedName r refl
-      by rest false r = at rest (targets table u) r refl
+      by rest false r = at rest (table_word_targets table u) r refl
 
-  told_key : (k : ℕ) (path : List Key) (n : Key) → IsKeyPath table path → length path + k ≡ length table + 1
-      → Told path (key_words table n) (key_fault_within table k path n)
+  told_key : (k : ℕ) (path : List Key) (n : Key) → IsNameFaultPath table path → length path + k ≡ length table + 1
+      → Told path (table_words_of_key table n) (key_fault_within table k path n)
   told_key zero path n p room = absurd (let l : length path ≤ length table = path_fits_table table path p in
       omega arith)
   told_key (suc k) path n p room =
-      told_words (key_fault_within table k) path (key_words table n) (λ m off there.
+      told_words (key_fault_within table k) path (table_words_of_key table n) (λ m off there.
       told_key k (path ++ m ∷ []) m (longer table path m p off there) (omega (arith, length-append path (m ∷ []))))
 
-  told : (path : List Key) (words : List WordUse) → IsKeyPath table path
+  told : (path : List Key) (words : List WordUse) → IsNameFaultPath table path
       → Told path words (words_fault table path words)
   told path words p =
       let l : length path ≤ length table = path_fits_table table path p in
@@ -210,19 +212,19 @@ module _ (table : Table) where
       (omega (arith, length-append path (m ∷ []))))
 
   -- ---- the faults by the rules and the computed faults agree
-  met_is : (path : List Key) (words : List WordUse) (f : NameFault) → IsKeyPath table path
+  met_is : (path : List Key) (words : List WordUse) (f : NameFault) → IsNameFaultPath table path
       → words_fault table path words ≡ Some f → Meets table path words f
   met_is path words f p e = subst (Told path words) e (told path words p)
 
-  clean_is : (path : List Key) (words : List WordUse) → IsKeyPath table path → words_fault table path words ≡ None
+  clean_is : (path : List Key) (words : List WordUse) → IsNameFaultPath table path → words_fault table path words ≡ None
       → AreClean table path words
   clean_is path words p e = subst (Told path words) e (told path words p)
 
-  one : (path : List Key) (words : List WordUse) (f g : NameFault) → IsKeyPath table path
+  one : (path : List Key) (words : List WordUse) (f g : NameFault) → IsNameFaultPath table path
       → Meets table path words f → Meets table path words g → f ≡ g
   one path words f g p a b = same_Some f g (sym (met a p) ∙ met b p)
 
-  no_fault : (path : List Key) (words : List WordUse) → IsKeyPath table path
+  no_fault : (path : List Key) (words : List WordUse) → IsNameFaultPath table path
       → ((f : NameFault) → Meets table path words f → ⊥) → AreClean table path words
   no_fault path words p h = by (words_fault table path words) (told path words p)
     where
@@ -241,5 +243,5 @@ meets_law = record {
   fault_met = λ table path words f p. (met_is table path words f p, λ m. met table m p);
   none_met = λ table path words p. (clean_is table path words p, λ c. clean table c p);
   name = λ table words f. (met_is table [] words f (empty_is_path table), λ m. met table m (empty_is_path table));
-  key = λ table n f p. (met_is table (n ∷ []) (key_words table n) f p, λ m. met table m p);
+  key = λ table n f p. (met_is table (n ∷ []) (table_words_of_key table n) f p, λ m. met table m p);
 }

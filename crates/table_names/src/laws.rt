@@ -1,16 +1,16 @@
 //! Laws of name faults, of the meanings of names and the keys that they reach, and of the keys that edits affect.
 
-ghost use Rattle.table_names.specs.AffectedKeys.{AffectedLaw};
+ghost use Rattle.table_names.specs.AffectedKeys.{AffectedTableNameLaw};
 ghost use Rattle.table_names.specs.ClosedLaws.{ClosedWordLaw};
-ghost use Rattle.table_names.specs.Edits.{UnaffectedLaw};
-ghost use Rattle.table_names.specs.Examples.{NameExamplesLaw};
-ghost use Rattle.table_names.specs.FaultLaws.{KeyPathLaw, WordsFaultLaw};
-ghost use Rattle.table_names.specs.FunctionExamples.{FunctionExamplesLaw};
-ghost use Rattle.table_names.specs.Kinds.{KindLaw};
-ghost use Rattle.table_names.specs.Leads.{LookupLaw};
+ghost use Rattle.table_names.specs.Edits.{UnaffectedTableNameLaw};
+ghost use Rattle.table_names.specs.Examples.{NameFaultExamplesLaw};
+ghost use Rattle.table_names.specs.FaultLaws.{NameFaultPathLaw, WordsNameFaultLaw};
+ghost use Rattle.table_names.specs.FunctionExamples.{FunctionMeaningExamplesLaw};
+ghost use Rattle.table_names.specs.Kinds.{MeaningKindLaw};
+ghost use Rattle.table_names.specs.Leads.{TableNameLookupLaw};
 ghost use Rattle.table_names.specs.Meanings.{ClosedMeaningLaw};
 ghost use Rattle.table_names.specs.MeetsLaws.{MeetsLaw};
-ghost use Rattle.table_names.specs.Reach.{ReachLaw};
+ghost use Rattle.table_names.specs.Reach.{TableNameReachLaw};
 ghost use Rattle.table_names.specs.StandsForLaws.{StandsForLaw};
 
 /// A name stands for at most one meaning. In a table that fits kinds it stands for one exactly if it has no name
@@ -26,18 +26,18 @@ pub fn meets_law()
 
 /// The lookup of a word in a table is the result of the plan of `resolve` among the keys of its entries.
 pub fn lookup_law()
-    ensures { LookupLaw }
+    ensures { TableNameLookupLaw }
 {}
 
 /// The fault of words is the first of the faults of each of them, and this determines it uniquely.
 pub fn fault_law()
-    ensures { WordsFaultLaw }
+    ensures { WordsNameFaultLaw }
 {}
 
 /// The empty list of keys is a path, a path can be extended by each present key that is not on it, and no path is
 /// longer than the table.
 pub fn path_law()
-    ensures { KeyPathLaw }
+    ensures { NameFaultPathLaw }
 {}
 
 /// The keys that closed words and keys reach have no name fault either, and are on no cycle.
@@ -52,30 +52,30 @@ pub fn closed_meaning_law()
 
 /// The meanings of closed keys and words fit the kinds of the keys.
 pub fn kind_law()
-    ensures { KindLaw }
+    ensures { MeaningKindLaw }
 {}
 
 /// `reach` lists exactly the keys that closed words reach.
 pub fn reach_law()
-    ensures { ReachLaw }
+    ensures { TableNameReachLaw }
 {}
 
 /// `is_affected` computes whether an edit affects a closed key, and each key that reaches an affected key is affected.
 pub fn affected_law()
-    ensures { AffectedLaw }
+    ensures { AffectedTableNameLaw }
 {}
 
 /// An edit does not change anything about the closed keys that it does not affect.
 pub fn unaffected_law()
-    ensures { UnaffectedLaw }
+    ensures { UnaffectedTableNameLaw }
 {}
 
 /// The examples with functions hold: some functions have the ranks and name faults that were worked out by hand.
 pub fn function_examples_law()
-    ensures { FunctionExamplesLaw }
+    ensures { FunctionMeaningExamplesLaw }
 {}
 
 /// The examples hold: a small table has the faults, meanings and affected keys that were worked out by hand.
 pub fn examples_law()
-    ensures { NameExamplesLaw }
+    ensures { NameFaultExamplesLaw }
 {}

@@ -1,5 +1,5 @@
-//! Tests of `units_io`: readers, writers and files of the system that fail, a sink in memory that fails, the messages of
-//! faults, and seeds. A crate with tests is proved twice, so they are not in `units_io`.
+//! Tests of `units_io`: readers, writers and files of the system that fail, a sink in memory that fails, the messages
+//! of faults, and seeds. A crate with tests is proved twice, so they are not in `units_io`.
 #![tactic(auto)]
 
 #[cfg(test)]

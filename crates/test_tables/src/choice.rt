@@ -1,14 +1,14 @@
 //! The options of replies, and their syntax.
 
 ghost use Rattle.std.specs.Prelude.{◌≤◌, IfSome};
-ghost use Rattle.reply.specs.Options.{IsPrintable};
+ghost use Rattle.reply.specs.Options.{AreReplyOptionsPrintable};
 
 use reply::Options;
 use std::str;
 
 // Returns the default options: eight digits and no flag.
 pub(crate) fn default_options() -> Options
-    ensures { IsPrintable result }
+    ensures { AreReplyOptionsPrintable result }
 {
     Options {
         digits: 8,
@@ -24,7 +24,7 @@ pub(crate) fn default_options() -> Options
 
 // Reads options as words separated by spaces: flags, and a number of digits, which is eight if it is not given.
 pub(crate) fn read_options(words: &[u8]) -> Option<Options>
-    ensures { IfSome result IsPrintable }
+    ensures { IfSome result AreReplyOptionsPrintable }
 {
     let mut options = default_options();
     for word in words.split(|byte| *byte == b' ') {
@@ -35,8 +35,8 @@ pub(crate) fn read_options(words: &[u8]) -> Option<Options>
 
 // Adds the option that a word names.
 fn with_option(mut options: Options, word: &[u8]) -> Option<Options>
-    requires { IsPrintable options }
-    ensures { IfSome result IsPrintable }
+    requires { AreReplyOptionsPrintable options }
+    ensures { IfSome result AreReplyOptionsPrintable }
 {
     match word {
         b"" => {}

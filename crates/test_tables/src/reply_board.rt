@@ -1,6 +1,6 @@
 //! A live table that calls for replies and reports operate on.
 
-ghost use Rattle.reply.specs.Options.{IsPrintable};
+ghost use Rattle.reply.specs.Options.{AreReplyOptionsPrintable};
 
 use crate::choice::{default_options, read_options};
 use live_table::LiveTable;
@@ -42,9 +42,9 @@ pub(crate) fn reply_answers<L: Ledger>(
 }
 
 impl<L: Ledger> Answers for Board<L> {
-    ghost use Rattle.reply.specs.Options.{IsPrintable};
+    ghost use Rattle.reply.specs.Options.{AreReplyOptionsPrintable};
 
-    ghost is_ready = { λ board. IsPrintable board.options };
+    ghost is_ready = { λ board. AreReplyOptionsPrintable board.options };
 
     fn put_answer(
         &mut self,
@@ -87,8 +87,8 @@ impl<L: Ledger> Answers for Board<L> {
 impl<L: Ledger> Board<L> {
     // Returns the reply to a conversion, a definition or a call for units that conform.
     fn reply_to(&mut self, alloc: Global, word: &[u8], rest: &[u8]) -> Result<Reply, CallFault>
-        requires { IsPrintable self.old.options }
-        ensures { IsPrintable self.new.options }
+        requires { AreReplyOptionsPrintable self.old.options }
+        ensures { AreReplyOptionsPrintable self.new.options }
     {
         let live = &mut self.live;
         let steps = &mut self.steps;

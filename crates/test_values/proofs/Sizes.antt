@@ -11,10 +11,10 @@ use Rattle.expr_tree.specs.declared.tree.Tree.TheVariants as made
 use Rattle.expr_tree.specs.declared.tree.Trees.{Trees}
 use Rattle.expr_tree.specs.Syntax.{Syntax, Members, NoMember, Member, Factors, NoFactor, Factor, Terms, NoTerm, Term}
 use Rattle.expr_tree.specs.Syntax as tree
-use Rattle.expr_tree.specs.Trees.{factor_syntax, factors_of, factors_syntax, members, syntax, term, terms, terms_of}
-use Rattle.expr_tree.specs.Trees.{trees_of}
-use Rattle.expr_tree.proofs.Views.{of_call, of_inverse, of_root, of_group, of_negate, of_power, of_juxtaposed}
-use Rattle.expr_tree.proofs.Views.{of_product, of_sum}
+use Rattle.expr_tree.specs.Trees.{factor_syntax, factors_syntax, members_syntax, syntax, syntax_of_factors}
+use Rattle.expr_tree.specs.Trees.{syntax_of_terms, term_syntax, terms_syntax, syntax_of_trees}
+use Rattle.expr_tree.proofs.Views.{syntax_of_call, syntax_of_inverse, syntax_of_root, syntax_of_group, syntax_of_negate}
+use Rattle.expr_tree.proofs.Views.{syntax_of_power, syntax_of_juxtaposed, syntax_of_product, syntax_of_sum}
 
 abbrev mutual
   pub size : Syntax → ℕ
@@ -44,50 +44,50 @@ abbrev mutual
 -- the size of a call is one more than that of its operand
 pub of_call_size : (t : Tree) (w : Box (List ℕ) Global) (e : Box Tree Global) → t ≡ made.Call w e
     → size (syntax t) ≡ suc (size (syntax e.value))
-of_call_size t w e is = ap (λ (x : Tree). size (syntax x)) is ∙ ap size (of_call w e)
+of_call_size t w e is = ap (λ (x : Tree). size (syntax x)) is ∙ ap size (syntax_of_call w e)
 
 -- the size of an inverse is one more than that of its operand
 pub of_inverse_size : (t : Tree) (w : Box (List ℕ) Global) (e : Box Tree Global) → t ≡ made.Inverse w e
     → size (syntax t) ≡ suc (size (syntax e.value))
-of_inverse_size t w e is = ap (λ (x : Tree). size (syntax x)) is ∙ ap size (of_inverse w e)
+of_inverse_size t w e is = ap (λ (x : Tree). size (syntax x)) is ∙ ap size (syntax_of_inverse w e)
 
 -- the size of a root is one more than that of its operand
 pub of_root_size : (t : Tree) (n : RootKind) (e : Box Tree Global) → t ≡ made.Root n e
     → size (syntax t) ≡ suc (size (syntax e.value))
-of_root_size t n e is = ap (λ (x : Tree). size (syntax x)) is ∙ ap size (of_root n e)
+of_root_size t n e is = ap (λ (x : Tree). size (syntax x)) is ∙ ap size (syntax_of_root n e)
 
 -- the size of a group is one more than that of its operand
 pub of_group_size : (t : Tree) (e : Box Tree Global) → t ≡ made.Group e → size (syntax t) ≡ suc (size (syntax e.value))
-of_group_size t e is = ap (λ (x : Tree). size (syntax x)) is ∙ ap size (of_group e)
+of_group_size t e is = ap (λ (x : Tree). size (syntax x)) is ∙ ap size (syntax_of_group e)
 
 -- the size of a negation is one more than that of its operand
 pub of_negate_size : (t : Tree) (e : Box Tree Global) → t ≡ made.Negate e
     → size (syntax t) ≡ suc (size (syntax e.value))
-of_negate_size t e is = ap (λ (x : Tree). size (syntax x)) is ∙ ap size (of_negate e)
+of_negate_size t e is = ap (λ (x : Tree). size (syntax x)) is ∙ ap size (syntax_of_negate e)
 
 -- the size of a power is one more than that of both its parts
 pub of_power_size : (t : Tree) (e f : Box Tree Global) → t ≡ made.Power e f
     → size (syntax t) ≡ suc (size (syntax e.value) + size (syntax f.value))
-of_power_size t e f is = ap (λ (x : Tree). size (syntax x)) is ∙ ap size (of_power e f)
+of_power_size t e f is = ap (λ (x : Tree). size (syntax x)) is ∙ ap size (syntax_of_power e f)
 
 -- the size of juxtaposed operands is one more than that of all of them
 pub of_juxtaposed_size : (t : Tree) (es : Trees) → t ≡ made.Juxtaposed es
-    → size (syntax t) ≡ suc (members_size (members (trees_of es)))
-of_juxtaposed_size t es is = ap (λ (x : Tree). size (syntax x)) is ∙ ap size (of_juxtaposed es)
+    → size (syntax t) ≡ suc (members_size (members_syntax (syntax_of_trees es)))
+of_juxtaposed_size t es is = ap (λ (x : Tree). size (syntax x)) is ∙ ap size (syntax_of_juxtaposed es)
 
 -- the size of a product is one more than that of its members
 pub of_product_size : (t : Tree) (fs : FactorList) → t ≡ made.Product fs
-    → size (syntax t) ≡ suc (factors_size (factors_syntax (factors_of fs)))
-of_product_size t fs is = ap (λ (x : Tree). size (syntax x)) is ∙ ap size (of_product fs)
+    → size (syntax t) ≡ suc (factors_size (factors_syntax (syntax_of_factors fs)))
+of_product_size t fs is = ap (λ (x : Tree). size (syntax x)) is ∙ ap size (syntax_of_product fs)
 
 -- the size of a sum is one more than that of its members
 pub of_sum_size : (t : Tree) (ts : TermList) → t ≡ made.Sum ts
-    → size (syntax t) ≡ suc (terms_size (terms (terms_of ts)))
-of_sum_size t ts is = ap (λ (x : Tree). size (syntax x)) is ∙ ap size (of_sum ts)
+    → size (syntax t) ≡ suc (terms_size (terms_syntax (syntax_of_terms ts)))
+of_sum_size t ts is = ap (λ (x : Tree). size (syntax x)) is ∙ ap size (syntax_of_sum ts)
 
 -- each operand is smaller than all of them together
 pub member_smaller : (ts : List Tree) (i : ℕ) (d : Tree) → i < length ts
-    → size (syntax (get_or ts i d)) < members_size (members (map syntax ts))
+    → size (syntax (get_or ts i d)) < members_size (members_syntax (map syntax ts))
 member_smaller [] i d h = absurd (omega arith)
 member_smaller (t ∷ ts) zero d h = omega arith
 member_smaller (t ∷ ts) (suc i) d h = omega (arith, member_smaller ts i d (omega arith))
@@ -101,7 +101,7 @@ factor_smaller (f ∷ fs) (suc i) d h = omega (arith, factor_smaller fs i d (ome
 
 -- each member of a sum is smaller than all of them together
 pub term_smaller : (ts : List (Sign × Tree)) (i : ℕ) (d : Sign × Tree) → i < length ts
-    → size (syntax (get_or ts i d).1) < terms_size (terms (map term ts))
+    → size (syntax (get_or ts i d).1) < terms_size (terms_syntax (map term_syntax ts))
 term_smaller [] i d h = absurd (omega arith)
 term_smaller (t ∷ ts) zero d h = omega arith
 term_smaller (t ∷ ts) (suc i) d h = omega (arith, term_smaller ts i d (omega arith))

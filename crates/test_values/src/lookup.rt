@@ -3,7 +3,7 @@
 ghost use Rattle.std.specs.Prelude.{◌≡◌};
 ghost use Rattle.std.specs.List.{position};
 ghost use Rattle.def_entry.specs.Keys as key_spec;
-ghost use Rattle.def_entry.specs.SameKeys.{is_same, is_same_kind};
+ghost use Rattle.def_entry.specs.SameKeys.{is_same_entry_key, is_same_key_kind};
 
 use def_entry::{Key, Keys, Kind, key_text};
 use expr_tree::WordKind;
@@ -34,7 +34,7 @@ impl Table {
 impl Present for Table {
     ghost keys = { λ table. table.keys };
 
-    ghost place = { λ table k. position (is_same k) table.keys };
+    ghost place = { λ table k. position (is_same_entry_key k) table.keys };
 
     fn find(&self, kind: Kind, name: &[u8]) -> Option<usize> {
         place_of(self.keys.as_slice(), kind, name)
@@ -43,21 +43,21 @@ impl Present for Table {
 
 // Returns the place of the first key with this kind and name.
 fn place_of(keys: &[Key], kind: Kind, name: &[u8]) -> Option<usize>
-    ensures { result ≡ position (is_same (key_spec.key kind name.now)) keys.now }
+    ensures { result ≡ position (is_same_entry_key (key_spec.key kind name.now)) keys.now }
 {
     keys.iter().position(|key| is_key(key, kind, name))
 }
 
 // Returns whether the key has this kind and name.
 fn is_key(key: &Key, kind: Kind, name: &[u8]) -> bool
-    ensures { result ≡ is_same (key_spec.key kind name.now) key.now }
+    ensures { result ≡ is_same_entry_key (key_spec.key kind name.now) key.now }
 {
     is_kind(kind, key.kind) && name == key.name.as_bytes()
 }
 
 // Returns whether the kinds are equal.
 fn is_kind(kind: Kind, other: Kind) -> bool
-    ensures { result ≡ is_same_kind kind other }
+    ensures { result ≡ is_same_key_kind kind other }
 {
     kind == other
 }

@@ -1,7 +1,7 @@
 //! The report on a definition file.
 
 ghost use Rattle.std.specs.Prelude.{◌≡◌, true};
-ghost use Rattle.def_lines.specs.Kinds.{kind_of};
+ghost use Rattle.def_lines.specs.Kinds.{kind_of_line};
 ghost use Rattle.def_entry.specs.EntryReading.{has_entry};
 
 use crate::entry_text::put_entry;
@@ -49,7 +49,7 @@ pub(crate) fn report_to(alloc: Global, bytes: &[u8]) -> Result<Vec<u8>, AllocErr
 impl Report {
     // Adds the row of a definition or a list: its line number, and its entry or the reason why it is refused.
     fn add(&mut self, alloc: Global, number: u32, line: &[u8]) -> Result<(), AllocError>
-        requires { has_entry (kind_of line.now) ≡ true }
+        requires { has_entry (kind_of_line line.now) ≡ true }
     {
         self.entries = self.entries.saturating_add(1);
         put_count(alloc, &mut self.rows, number as usize, b": ")?;

@@ -9,46 +9,48 @@ use Rattle.expr_tree.specs.Words.{words_in}
 use Rattle.quantity.specs.Amount.{Amount}
 use Rattle.tree_eval.specs.declared.fault.EvalFault.{EvalFault}
 use Rattle.tree_eval.specs.declared.step.Step.{Step}
-use Rattle.tree_eval.specs.Answers.{GivesWorth}
-use Rattle.tree_eval.specs.Environment.{Stand}
-use Rattle.tree_eval.specs.Expansions.{Meaning}
-use Rattle.tree_eval.specs.Expansion.{expand, expanded_meaning, plain_word}
-use Rattle.tree_eval.specs.Operands.{with_worth}
+use Rattle.tree_eval.specs.Answers.{GivesValueOrFault}
+use Rattle.tree_eval.specs.Environment.{IsEvalWordRun}
+use Rattle.tree_eval.specs.Expansions.{EvalMeaning}
+use Rattle.tree_eval.specs.Expansion.{eval_meaning_expansion, expand, plain_eval_word}
+use Rattle.tree_eval.specs.Operands.{value_with_operand}
 use Rattle.tree_eval.specs.Value.{value}
-use Rattle.tree_eval.proofs.Places.{first_stands, first_within}
+use Rattle.tree_eval.proofs.Places.{first_eval_word_at_run, first_eval_word_within}
 
 -- a tree that is a word, and the word is at a place
-module _ (us : List WordUse) (p : ℕ) {e : Syntax} {w : List ℕ} (is : e ≡ tree.Word w) (stand : Stand us p (words_in e))
+module _ (us : List WordUse) (p : ℕ) {e : Syntax} {w : List ℕ} (is : e ≡ tree.Word w)
+    (stand : IsEvalWordRun us p (words_in e))
   where
     -- the word is at the place
-    word_stands : Stand us p (plain_word w ∷ [])
-    word_stands = subst (λ y. Stand us p (words_in y)) is stand
+    word_stands : IsEvalWordRun us p (plain_eval_word w ∷ [])
+    word_stands = subst (λ y. IsEvalWordRun us p (words_in y)) is stand
 
     -- the place is within the words
     pub alone_within : p < length us
-    alone_within = first_within us p (plain_word w) [] word_stands
+    alone_within = first_eval_word_within us p (plain_eval_word w) [] word_stands
 
     -- a result for the word at the place is a result for the tree
-    pub alone_gives : (means : WordUse → Meaning) (a : Option Amount) {A : Type 0} (seen : A → Amount)
+    pub alone_gives : (means : WordUse → EvalMeaning) (a : Option Amount) {A : Type 0} (seen : A → Amount)
         (r : Result A EvalFault)
-        → ((u : WordUse) → slice_get us p ≡ Some u → GivesWorth seen r (value (expanded_meaning (means u)) a))
-        → GivesWorth seen r (value (expand means e) a)
+        → ((u : WordUse) → slice_get us p ≡ Some u
+        → GivesValueOrFault seen r (value (eval_meaning_expansion (means u)) a))
+        → GivesValueOrFault seen r (value (expand means e) a)
     alone_gives means a seen r h =
-        subst (λ y. GivesWorth seen r (value (expand means y) a)) (sym is)
-        (h (plain_word w) (first_stands us p (plain_word w) [] word_stands))
+        subst (λ y. GivesValueOrFault seen r (value (expand means y) a)) (sym is)
+        (h (plain_eval_word w) (first_eval_word_at_run us p (plain_eval_word w) [] word_stands))
 
     -- a step with the word at the place as one more member is a step with the tree
-    pub member_gives : (means : WordUse → Meaning) (a : Option Amount) (step : Step) (held : Amount) {A : Type 0}
+    pub member_gives : (means : WordUse → EvalMeaning) (a : Option Amount) (step : Step) (held : Amount) {A : Type 0}
         (seen : A → Amount) (r : Result A EvalFault)
         → ((u : WordUse) → slice_get us p ≡ Some u
-        → GivesWorth seen r (with_worth step held (value (expanded_meaning (means u)) a)))
-        → GivesWorth seen r (with_worth step held (value (expand means e) a))
+        → GivesValueOrFault seen r (value_with_operand step held (value (eval_meaning_expansion (means u)) a)))
+        → GivesValueOrFault seen r (value_with_operand step held (value (expand means e) a))
     member_gives means a step held seen r h =
-        subst (λ y. GivesWorth seen r (with_worth step held (value (expand means y) a))) (sym is)
-        (h (plain_word w) (first_stands us p (plain_word w) [] word_stands))
+        subst (λ y. GivesValueOrFault seen r (value_with_operand step held (value (expand means y) a))) (sym is)
+        (h (plain_eval_word w) (first_eval_word_at_run us p (plain_eval_word w) [] word_stands))
 
 -- each place within the words holds a word
-pub word_at : (us : List WordUse) (p : ℕ) → p < length us → (u : WordUse) × (slice_get us p ≡ Some u)
-word_at [] p h = let z : ⊥ = omega (arith, h) in absurd z
-word_at (u ∷ us) zero h = (u, refl)
-word_at (u ∷ us) (suc p) h = word_at us p (omega (arith, h))
+pub eval_word_at_place : (us : List WordUse) (p : ℕ) → p < length us → (u : WordUse) × (slice_get us p ≡ Some u)
+eval_word_at_place [] p h = let z : ⊥ = omega (arith, h) in absurd z
+eval_word_at_place (u ∷ us) zero h = (u, refl)
+eval_word_at_place (u ∷ us) (suc p) h = eval_word_at_place us p (omega (arith, h))

@@ -5,41 +5,50 @@ use Rattle.tree_eval.specs.declared.fault.ValueFault.TheVariants as fault
 use Rattle.tree_eval.specs.declared.meaning.Meaning.{Meaning as Told}
 use Rattle.tree_eval.specs.declared.meaning.Meaning.TheVariants as told
 use Rattle.tree_eval.specs.declared.outcome.Outcome.TheVariants as outcome
-use Rattle.tree_eval.specs.Environment.{IsMeaningTold}
-use Rattle.tree_eval.specs.Expansions.{Callable, Function, Meaning}
-use Rattle.tree_eval.specs.Expansion.{expanded_meaning}
-use Rattle.tree_eval.specs.Outcomes.{stored_outcome, worth_in}
-use Rattle.tree_eval.specs.Steps.{Worth}
-use Rattle.tree_eval.specs.WordValues.{IsUsable, told_worth}
+use Rattle.tree_eval.specs.Environment.{IsReportedEvalMeaning}
+use Rattle.tree_eval.specs.Expansions.{Callable, EvalMeaning, Function}
+use Rattle.tree_eval.specs.Expansion.{eval_meaning_expansion}
+use Rattle.tree_eval.specs.Outcomes.{outcome_of_value, value_in_outcome}
+use Rattle.tree_eval.specs.Steps.{ValueOrFault}
+use Rattle.tree_eval.specs.WordValues.{IsUsableEvalMeaning, reported_word_value}
 use Rattle.tree_eval.specs.Value.{value}
 
 -- a stored value or fault is read back unchanged
-pub worth_kept : (w : Worth) → worth_in (stored_outcome w) ≡ w
-worth_kept (Ok q) = refl
-worth_kept (Err f) = refl
+pub stored_value_is_read_back : (w : ValueOrFault) → value_in_outcome (outcome_of_value w) ≡ w
+stored_value_is_read_back (Ok q) = refl
+stored_value_is_read_back (Err f) = refl
 
 -- a stored value or fault is not `Callable`
-pub kept_is_value : (w : Worth) → stored_outcome w ≢ outcome.Callable
-kept_is_value (Ok q) e = cc
-kept_is_value (Err f) e = cc
+pub stored_value_is_not_callable : (w : ValueOrFault) → outcome_of_value w ≢ outcome.Callable
+stored_value_is_not_callable (Ok q) e = cc
+stored_value_is_not_callable (Err f) e = cc
 
 -- the reported meaning of a word is usable
-pub usable : (has : ℕ → Bool) (callee : ℕ → Callable) (m : Meaning) (t : Told) → IsMeaningTold has callee m t
-    → IsUsable has t
-usable has callee m (told.One o) h = λ e. kept_is_value (value h.0 None) (sym h.2 ∙ e)
-usable has callee m (told.Two p u) h =
-    (λ e. kept_is_value (value h.0 None) (sym h.3 ∙ e), λ e. kept_is_value (value h.1 None) (sym h.4 ∙ e))
-usable has callee m (told.Function id) h = h.0
+pub reported_eval_meaning_is_usable : (has : ℕ → Bool) (callee : ℕ → Callable) (m : EvalMeaning) (t : Told)
+    → IsReportedEvalMeaning has callee m t
+    → IsUsableEvalMeaning has t
+reported_eval_meaning_is_usable has callee m (told.One o) h = λ e. stored_value_is_not_callable (value h.0 None)
+    (sym h.2 ∙ e)
+reported_eval_meaning_is_usable has callee m (told.Two p u) h = (
+  λ e. stored_value_is_not_callable (value h.0 None) (sym h.3 ∙ e),
+  λ e. stored_value_is_not_callable
+      (value h.1 None) (sym h.4 ∙ e),
+)
+reported_eval_meaning_is_usable has callee m (told.Function id) h = h.0
 
 -- the value of a single word by its reported meaning
-pub told_plain : (has : ℕ → Bool) (callee : ℕ → Callable) (m : Meaning) (t : Told) (a : Option Amount)
-    → IsMeaningTold has callee m t
-    → value (expanded_meaning m) a ≡ told_worth callee t
-told_plain has callee m (told.One o) a h =
-    let w : worth_in o.now ≡ value h.0 None = ap worth_in h.2 ∙ worth_kept (value h.0 None) in
-    ap (λ x. value (expanded_meaning x) a) h.1 ∙ sym w
-told_plain has callee m (told.Two p u) a h =
-    let v : worth_in p.now ≡ value h.0 None = ap worth_in h.3 ∙ worth_kept (value h.0 None) in
-    let w : worth_in u.now ≡ value h.1 None = ap worth_in h.4 ∙ worth_kept (value h.1 None) in
+pub reported_plain_word_value : (has : ℕ → Bool) (callee : ℕ → Callable) (m : EvalMeaning) (t : Told)
+    (a : Option Amount)
+    → IsReportedEvalMeaning has callee m t
+    → value (eval_meaning_expansion m) a ≡ reported_word_value callee t
+reported_plain_word_value has callee m (told.One o) a h =
+    let w : value_in_outcome o.now ≡ value h.0 None = ap value_in_outcome h.2
+    ∙ stored_value_is_read_back (value h.0 None) in
+    ap (λ x. value (eval_meaning_expansion x) a) h.1 ∙ sym w
+reported_plain_word_value has callee m (told.Two p u) a h =
+    let v : value_in_outcome p.now ≡ value h.0 None = ap value_in_outcome h.3
+    ∙ stored_value_is_read_back (value h.0 None) in
+    let w : value_in_outcome u.now ≡ value h.1 None = ap value_in_outcome h.4
+    ∙ stored_value_is_read_back (value h.1 None) in
     rw (h.2, v, w) refl
-told_plain has callee m (told.Function id) a h = ap (λ x. value (expanded_meaning x) a) h.1
+reported_plain_word_value has callee m (told.Function id) a h = ap (λ x. value (eval_meaning_expansion x) a) h.1

@@ -9,30 +9,30 @@ use Rattle.expr_tree.specs.Words.{words_in}
 use Rattle.quantity.specs.Amount.{Amount}
 use Rattle.tree_eval.specs.declared.fault.EvalFault.{EvalFault}
 use Rattle.tree_eval.specs.declared.step.Step.{Step}
-use Rattle.tree_eval.specs.Answers.{GivesWorth, amount_in}
-use Rattle.tree_eval.specs.Environment.{Stand}
-use Rattle.tree_eval.specs.Expansions.{Meaning}
+use Rattle.tree_eval.specs.Answers.{GivesValueOrFault, amount_of_held_value}
+use Rattle.tree_eval.specs.Environment.{IsEvalWordRun}
+use Rattle.tree_eval.specs.Expansions.{EvalMeaning}
 use Rattle.tree_eval.specs.Expansion.{expand}
-use Rattle.tree_eval.specs.Operands.{chain, links, with_worth, words_of_members}
+use Rattle.tree_eval.specs.Operands.{chain, links, value_with_operand, words_of_operands}
 use Rattle.units_io.specs.Outcomes.{◌>>=◌}
-use Rattle.tree_eval.specs.Steps.{Worth, step_worth}
+use Rattle.tree_eval.specs.Steps.{ValueOrFault, operand_step_value}
 use Rattle.tree_eval.specs.Value.{chain_value, value}
-use Rattle.tree_eval.proofs.StepBinds.{fault_first}
-use Rattle.tree_eval.proofs.Places.{left_stands, right_stands}
+use Rattle.tree_eval.proofs.StepBinds.{first_eval_step_fault}
+use Rattle.tree_eval.proofs.Places.{left_eval_words_at_run, right_eval_words_at_run}
 use Rattle.tree_eval.proofs.Weight.{weight, weight_links}
 use Rattle.general_lemmas.proofs.Places.{drop_at}
 
 -- two steps in turn are one step that makes both
-in_two : (r : Worth) (f g : Amount → Worth) → (r >>= (λ w. f w >>= g)) ≡ (r >>= f >>= g)
-in_two (Ok w) f g = refl
-in_two (Err e) f g = refl
+eval_steps_in_two : (r : ValueOrFault) (f g : Amount → ValueOrFault) → (r >>= (λ w. f w >>= g)) ≡ (r >>= f >>= g)
+eval_steps_in_two (Ok w) f g = refl
+eval_steps_in_two (Err e) f g = refl
 
 -- the members before member i have been taken, and those from member i on are left
-pub record IsRunning (means : WordUse → Meaning) (us : List WordUse) (place : ℕ) (all : List (Step × Syntax))
+pub record IsRunning (means : WordUse → EvalMeaning) (us : List WordUse) (place : ℕ) (all : List (Step × Syntax))
     (a : Option Amount) (i : ℕ) (held : Amount) (next : ℕ) : Type 0 where
   pub goes_on : value (chain means all) a ≡ chain_value held (links means (drop i all)) a
-  pub places : next + length (words_of_members (drop i all)) ≡ place + length (words_of_members all)
-  pub stand : Stand us next (words_of_members (drop i all))
+  pub places : next + length (words_of_operands (drop i all)) ≡ place + length (words_of_operands all)
+  pub stand : IsEvalWordRun us next (words_of_operands (drop i all))
   pub lighter : weight_links (links means (drop i all)) < weight (chain means all)
 
 -- the first member of a chain
@@ -40,16 +40,17 @@ module _ (all : List (Step × Syntax)) {o : Step × Syntax} (is : slice_get all 
   split_first : all ≡ o ∷ drop 1 all
   split_first = drop_at all 0 o is
 
-  words_first : words_of_members all ≡ words_in o.1 ++ words_of_members (drop 1 all)
-  words_first = ap words_of_members split_first
+  words_first : words_of_operands all ≡ words_in o.1 ++ words_of_operands (drop 1 all)
+  words_first = ap words_of_operands split_first
 
   -- the words of the first member are at the place of those of the chain
-  pub first_stand : (us : List WordUse) (place : ℕ) → Stand us place (words_of_members all)
-      → Stand us place (words_in o.1)
+  pub first_stand : (us : List WordUse) (place : ℕ) → IsEvalWordRun us place (words_of_operands all)
+      → IsEvalWordRun us place (words_in o.1)
   first_stand us place h =
-      left_stands us place (words_in o.1) (words_of_members (drop 1 all)) (subst (Stand us place) words_first h)
+      left_eval_words_at_run us place (words_in o.1) (words_of_operands (drop 1 all))
+      (subst (IsEvalWordRun us place) words_first h)
 
-  module _ (means : WordUse → Meaning) where
+  module _ (means : WordUse → EvalMeaning) where
     weight_first : weight (chain means all) ≡ suc (weight (expand means o.1) + weight_links (links means (drop 1 all)))
     weight_first = ap (λ y. weight (chain means y)) split_first
 
@@ -57,8 +58,8 @@ module _ (all : List (Step × Syntax)) {o : Step × Syntax} (is : slice_get all 
     pub first_lighter : 8 * weight (expand means o.1) + 2 < 8 * weight (chain means all)
     first_lighter = omega (arith, weight_first)
 
-  module _ (means : WordUse → Meaning) (a : Option Amount) where
-    abbrev behind : Amount → Worth
+  module _ (means : WordUse → EvalMeaning) (a : Option Amount) where
+    abbrev behind : Amount → ValueOrFault
     behind v = chain_value v (links means (drop 1 all)) a
 
     worth_first : value (chain means all) a ≡ (value (expand means o.1) a >>= behind)
@@ -66,78 +67,81 @@ module _ (all : List (Step × Syntax)) {o : Step × Syntax} (is : slice_get all 
 
     -- the fault of the first member is that of the chain
     pub first_fault : (e : EvalFault)
-        → GivesWorth amount_in (Err e) (value (expand means o.1) a)
-        → GivesWorth amount_in (Err e) (value (chain means all) a)
+        → GivesValueOrFault amount_of_held_value (Err e) (value (expand means o.1) a)
+        → GivesValueOrFault amount_of_held_value (Err e) (value (chain means all) a)
     first_fault e h =
-        fault_first amount_in amount_in e (value (expand means o.1) a) behind (value (chain means all) a) worth_first h
+        first_eval_step_fault amount_of_held_value amount_of_held_value e (value (expand means o.1) a) behind
+        (value (chain means all) a) worth_first h
 
     -- the loop begins with the value of the first member
-    pub begins : {us : List WordUse} {place next : ℕ} {held : Amount} → Stand us place (words_of_members all)
+    pub begins : {us : List WordUse} {place next : ℕ} {held : Amount} → IsEvalWordRun us place (words_of_operands all)
         → value (expand means o.1) a ≡ Ok held → next ≡ place + length (words_in o.1)
         → IsRunning means us place all a 1 held next
     begins {us} {place} {next} {held} h v n =
-        let w : length (words_of_members all) ≡ length (words_in o.1) + length (words_of_members (drop 1 all)) =
-        ap length words_first ∙ length-append (words_in o.1) (words_of_members (drop 1 all)) in
+        let w : length (words_of_operands all) ≡ length (words_in o.1) + length (words_of_operands (drop 1 all)) =
+        ap length words_first ∙ length-append (words_in o.1) (words_of_operands (drop 1 all)) in
         record {
           goes_on = worth_first ∙ ap (λ r. r >>= behind) v;
           places = omega (arith, n, w);
-          stand = subst (λ k. Stand us k (words_of_members (drop 1 all))) (sym n)
-              (right_stands us place (words_in o.1) (words_of_members (drop 1 all))
-              (subst (Stand us place) words_first h));
+          stand = subst (λ k. IsEvalWordRun us k (words_of_operands (drop 1 all))) (sym n)
+              (right_eval_words_at_run us place (words_in o.1) (words_of_operands (drop 1 all))
+              (subst (IsEvalWordRun us place) words_first h));
           lighter = omega (arith, weight_first means);
         }
 
-module _ {means : WordUse → Meaning} {us : List WordUse} {place : ℕ} {all : List (Step × Syntax)} {a : Option Amount}
+module _ {means : WordUse → EvalMeaning} {us : List WordUse} {place : ℕ} {all : List (Step × Syntax)}
+    {a : Option Amount}
     {i : ℕ} {held : Amount} {next : ℕ} (running : IsRunning means us place all a i held next) where
   -- a further member
   module _ {o : Step × Syntax} (is : slice_get all i ≡ Some o) where
     split : drop i all ≡ o ∷ drop (i + 1) all
     split = drop_at all i o is
 
-    words_here : words_of_members (drop i all) ≡ words_in o.1 ++ words_of_members (drop (i + 1) all)
-    words_here = ap words_of_members split
+    words_here : words_of_operands (drop i all) ≡ words_in o.1 ++ words_of_operands (drop (i + 1) all)
+    words_here = ap words_of_operands split
 
     weight_here : weight_links (links means (drop i all))
         ≡ weight (expand means o.1) + weight_links (links means (drop (i + 1) all))
     weight_here = ap (λ y. weight_links (links means y)) split
 
     -- the words of the member are at the place
-    pub member_stand : Stand us next (words_in o.1)
-    member_stand = left_stands us next (words_in o.1) (words_of_members (drop (i + 1) all))
-        (subst (Stand us next) words_here running.stand)
+    pub member_stand : IsEvalWordRun us next (words_in o.1)
+    member_stand = left_eval_words_at_run us next (words_in o.1) (words_of_operands (drop (i + 1) all))
+        (subst (IsEvalWordRun us next) words_here running.stand)
 
     -- the member is lighter than the chain
     pub member_lighter : 8 * weight (expand means o.1) + 4 < 8 * weight (chain means all)
     member_lighter = omega (arith, weight_here, running.lighter)
 
-    abbrev others : Amount → Worth
+    abbrev others : Amount → ValueOrFault
     others n = chain_value n (links means (drop (i + 1) all)) a
 
-    abbrev here : Worth
-    here = with_worth o.0 held (value (expand means o.1) a)
+    abbrev here : ValueOrFault
+    here = value_with_operand o.0 held (value (expand means o.1) a)
 
     worth_here : value (chain means all) a ≡ (here >>= others)
     worth_here = running.goes_on ∙ ap (λ y. chain_value held (links means y) a) split
-        ∙ in_two (value (expand means o.1) a) (step_worth o.0 held) others
+        ∙ eval_steps_in_two (value (expand means o.1) a) (operand_step_value o.0 held) others
 
     -- the fault of the member is that of the chain
-    pub member_fault : (e : EvalFault) → GivesWorth amount_in (Err e) here
-        → GivesWorth amount_in (Err e) (value (chain means all) a)
-    member_fault e h = fault_first amount_in amount_in e here others (value (chain means all) a) worth_here h
+    pub member_fault : (e : EvalFault) → GivesValueOrFault amount_of_held_value (Err e) here
+        → GivesValueOrFault amount_of_held_value (Err e) (value (chain means all) a)
+    member_fault e h = first_eval_step_fault amount_of_held_value amount_of_held_value e here others
+        (value (chain means all) a) worth_here h
 
     -- the loop continues with the result of the step
     pub run_goes_on : {x : Amount} {after : ℕ} → here ≡ Ok x → after ≡ next + length (words_in o.1)
         → IsRunning means us place all a (i + 1) x after
     run_goes_on {x} {after} j n =
-        let m : length (words_of_members (drop i all)) ≡ length (words_in o.1) + length
-        (words_of_members (drop (i + 1) all)) =
-        ap length words_here ∙ length-append (words_in o.1) (words_of_members (drop (i + 1) all)) in
+        let m : length (words_of_operands (drop i all)) ≡ length (words_in o.1) + length
+        (words_of_operands (drop (i + 1) all)) =
+        ap length words_here ∙ length-append (words_in o.1) (words_of_operands (drop (i + 1) all)) in
         record {
           goes_on = worth_here ∙ ap (λ r. r >>= others) j;
           places = omega (arith, n, m, running.places);
-          stand = subst (λ k. Stand us k (words_of_members (drop (i + 1) all))) (sym n)
-              (right_stands us next (words_in o.1) (words_of_members (drop (i + 1) all))
-              (subst (Stand us next) words_here running.stand));
+          stand = subst (λ k. IsEvalWordRun us k (words_of_operands (drop (i + 1) all))) (sym n)
+              (right_eval_words_at_run us next (words_in o.1) (words_of_operands (drop (i + 1) all))
+              (subst (IsEvalWordRun us next) words_here running.stand));
           lighter = omega (arith, weight_here, running.lighter);
         }
 
@@ -151,7 +155,7 @@ module _ {means : WordUse → Meaning} {us : List WordUse} {place : ℕ} {all : 
     end_worth = running.goes_on ∙ ap (λ y. chain_value held (links means y) a) none_left
 
     -- the place is past the words of the chain
-    pub end_place : next ≡ place + length (words_of_members all)
+    pub end_place : next ≡ place + length (words_of_operands all)
     end_place =
-        let z : length (words_of_members (drop i all)) ≡ 0 = ap (λ y. length (words_of_members y)) none_left in
+        let z : length (words_of_operands (drop i all)) ≡ 0 = ap (λ y. length (words_of_operands y)) none_left in
         omega (arith, running.places, z)

@@ -12,52 +12,52 @@ use Rattle.tree_eval.specs.declared.step.Step.{Step}
 use Rattle.tree_eval.specs.declared.step.Step.TheVariants.{Multiply, Divide, Add, Subtract}
 use Rattle.tree_eval.specs.Expansions.{Expanded, Number, Bar, Argument, Dimensionless, Named, Prefixed}
 use Rattle.tree_eval.specs.Expansions.{Uncalled, Applied, Unapplied, Root, Group, Negated, Power, Chain}
-use Rattle.tree_eval.specs.Expansions.{Links, NoLink, Link, Given, Absent, Present, Meaning, One, Two, Callee}
+use Rattle.tree_eval.specs.Expansions.{Links, NoLink, Link, Given, Absent, Present, EvalMeaning, One, Two, Callee}
 
 -- a single word
-abbrev pub expanded_meaning : Meaning → Expanded
-expanded_meaning (One x) = Named x
-expanded_meaning (Two x y) = Prefixed x y
-expanded_meaning (Callee f) = Uncalled f
+abbrev pub eval_meaning_expansion : EvalMeaning → Expanded
+eval_meaning_expansion (One x) = Named x
+eval_meaning_expansion (Two x y) = Prefixed x y
+eval_meaning_expansion (Callee f) = Uncalled f
 
 -- a word before its operand: a function is applied, any other meaning is multiplied
-abbrev pub call_expansion : Meaning → Expanded → Expanded
-call_expansion (Callee f) y = Applied f y
-call_expansion m y = Chain (expanded_meaning m) (Link Multiply y NoLink)
+abbrev pub operand_call_expansion : EvalMeaning → Expanded → Expanded
+operand_call_expansion (Callee f) y = Applied f y
+operand_call_expansion m y = Chain (eval_meaning_expansion m) (Link Multiply y NoLink)
 
 -- a word after a `~`, which is a function
-abbrev pub inverse_expansion : Meaning → Expanded → Expanded
-inverse_expansion (Callee f) y = Unapplied f y
-inverse_expansion m y = Chain (expanded_meaning m) (Link Multiply y NoLink)
+abbrev pub operand_inverse_expansion : EvalMeaning → Expanded → Expanded
+operand_inverse_expansion (Callee f) y = Unapplied f y
+operand_inverse_expansion m y = Chain (eval_meaning_expansion m) (Link Multiply y NoLink)
 
-abbrev pub scale_step : Scale → Step
-scale_step scale.Multiply = Multiply
-scale_step scale.Divide = Divide
+abbrev pub scale_operand_step : Scale → Step
+scale_operand_step scale.Multiply = Multiply
+scale_operand_step scale.Divide = Divide
 
-abbrev pub sign_step : Sign → Step
-sign_step sign.Plus = Add
-sign_step sign.Minus = Subtract
+abbrev pub sign_operand_step : Sign → Step
+sign_operand_step sign.Plus = Add
+sign_operand_step sign.Minus = Subtract
 
 -- a plain use of a word
-abbrev pub plain_word : List ℕ → WordUse
-plain_word w = record { text = w; kind = standing.Plain }
+abbrev pub plain_eval_word : List ℕ → WordUse
+plain_eval_word w = record { text = w; kind = standing.Plain }
 
-abbrev pub called_word : List ℕ → WordUse
-called_word w = record { text = w; kind = standing.Call }
+abbrev pub called_eval_word : List ℕ → WordUse
+called_eval_word w = record { text = w; kind = standing.Call }
 
-abbrev pub inverted_word : List ℕ → WordUse
-inverted_word w = record { text = w; kind = standing.Inverse }
+abbrev pub inverted_eval_word : List ℕ → WordUse
+inverted_eval_word w = record { text = w; kind = standing.Inverse }
 
 -- means: the meaning of each word. A list without members, which no text can produce, counts as 1
-module _ (means : WordUse → Meaning) where
+module _ (means : WordUse → EvalMeaning) where
   abbrev mutual
     pub expand : Syntax → Expanded
     expand (tree.Number x) = Number x
     expand (tree.Bar x y) = Bar x y
-    expand (tree.Word w) = expanded_meaning (means (plain_word w))
+    expand (tree.Word w) = eval_meaning_expansion (means (plain_eval_word w))
     expand tree.Argument = Argument
-    expand (tree.Call w e) = call_expansion (means (called_word w)) (expand e)
-    expand (tree.Inverse w e) = inverse_expansion (means (inverted_word w)) (expand e)
+    expand (tree.Call w e) = operand_call_expansion (means (called_eval_word w)) (expand e)
+    expand (tree.Inverse w e) = operand_inverse_expansion (means (inverted_eval_word w)) (expand e)
     expand (tree.Root kind e) = Root kind (expand e)
     expand (tree.Group e) = Group (expand e)
     expand (tree.Negate e) = Negated (expand e)
@@ -75,11 +75,11 @@ module _ (means : WordUse → Meaning) where
 
     pub factor_links : Factors → Links
     factor_links NoFactor = NoLink
-    factor_links (Factor s e fs) = Link (scale_step s) (expand e) (factor_links fs)
+    factor_links (Factor s e fs) = Link (scale_operand_step s) (expand e) (factor_links fs)
 
     pub term_links : Terms → Links
     term_links NoTerm = NoLink
-    term_links (Term s e ts) = Link (sign_step s) (expand e) (term_links ts)
+    term_links (Term s e ts) = Link (sign_operand_step s) (expand e) (term_links ts)
 
   abbrev pub expand_if : Option Syntax → Given
   expand_if None = Absent

@@ -2,15 +2,15 @@
 use Rattle.std.specs.Prelude.{ℕ, List, Option}
 use Rattle.def_entry.specs.declared.entry.Span.{Span}
 use Rattle.expr_tree.specs.declared.operator.RootKind.{RootKind}
-use Rattle.frac128.specs.Decimals.{Decimal}
+use Rattle.frac128.specs.Decimals.{NumeralDecimal}
 use Rattle.piecewise.specs.Lines.{Point}
 use Rattle.tree_eval.specs.declared.step.Step.{Step}
 
 mutual
   pub data Expanded : Type 0 where
     -- a numeral, and the quotient of two numerals
-    Number : Decimal → Expanded
-    Bar : Decimal → Decimal → Expanded
+    Number : NumeralDecimal → Expanded
+    Bar : NumeralDecimal → NumeralDecimal → Expanded
     -- the argument of the function whose expression this is
     Argument : Expanded
     -- a unit that is not defined by other units, and one that counts as 1
@@ -48,17 +48,17 @@ mutual
     Present : Expanded → Given
 
 -- the meaning of a word: a name, a prefix and a unit, or a function
-pub data Meaning : Type 0 where
-  One : Expanded → Meaning
-  Two : Expanded → Expanded → Meaning
-  Callee : Callable → Meaning
+pub data EvalMeaning : Type 0 where
+  One : Expanded → EvalMeaning
+  Two : Expanded → Expanded → EvalMeaning
+  Callee : Callable → EvalMeaning
 
-abbrev pub callable_name : Callable → List ℕ
-callable_name (Function name rank in_unit out_unit domain range forward inverse) = name
-callable_name (Alias name rank target) = name
-callable_name (Table name rank unit points) = name
+abbrev pub eval_callable_name : Callable → List ℕ
+eval_callable_name (Function name rank in_unit out_unit domain range forward inverse) = name
+eval_callable_name (Alias name rank target) = name
+eval_callable_name (Table name rank unit points) = name
 
-abbrev pub rank_of : Callable → ℕ
-rank_of (Function name rank in_unit out_unit domain range forward inverse) = rank
-rank_of (Alias name rank target) = rank
-rank_of (Table name rank unit points) = rank
+abbrev pub callable_rank : Callable → ℕ
+callable_rank (Function name rank in_unit out_unit domain range forward inverse) = rank
+callable_rank (Alias name rank target) = rank
+callable_rank (Table name rank unit points) = rank

@@ -5,9 +5,9 @@ use Rattle.tree_eval.specs.declared.fault.ValueFault.{ValueFault}
 use Rattle.tree_eval.specs.declared.fault.ValueFault.TheVariants as fault
 
 -- the fault of a step on quantities. The expected result of a step is never lack of memory
-abbrev pub quantity_step_fault : QuantityFault → ValueFault
-quantity_step_fault (step.Number f) = fault.Number f
-quantity_step_fault (step.NotConformable x y) = fault.NotConformable x y
-quantity_step_fault step.ExponentNotNumber = fault.ExponentNotNumber
-quantity_step_fault step.ExponentRange = fault.ExponentRange
-quantity_step_fault step.OutOfMemory = fault.ExponentRange
+abbrev pub eval_quantity_fault : QuantityFault → ValueFault
+eval_quantity_fault (step.Number f) = fault.Number f
+eval_quantity_fault (step.NotConformable x y) = fault.NotConformable x y
+eval_quantity_fault step.ExponentNotNumber = fault.ExponentNotNumber
+eval_quantity_fault step.ExponentRange = fault.ExponentRange
+eval_quantity_fault step.OutOfMemory = fault.ExponentRange

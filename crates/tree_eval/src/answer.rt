@@ -2,7 +2,7 @@
 
 ghost use Rattle.std.specs.Prelude.{Result};
 ghost use Rattle.quantity.specs.Amount.{Amount};
-ghost use Rattle.quantity.specs.Answers.{IsAnswer, IsStepOnNumbers};
+ghost use Rattle.quantity.specs.Answers.{IsQuantityAnswer, IsQuantityStepOnNumbers};
 ghost use Rattle.quantity.specs.declared.fault.QuantityFault.{QuantityFault as StepFault};
 ghost use Rattle.tree_eval.specs.Answers.{IsEvalResult};
 ghost use Rattle.tree_eval.specs.Steps as spec;
@@ -17,7 +17,7 @@ pub(crate) fn fraction_answer(
     alloc: Global,
     answer: Result<Frac, FracFault>,
 ) -> Result<Frac, EvalFault>
-    ensures { IsEvalResult result (spec.fraction_step answer) }
+    ensures { IsEvalResult result (spec.fraction_step_value answer) }
 {
     match answer {
         Ok(x) => Ok(x),
@@ -30,7 +30,7 @@ pub(crate) fn number_answer(
     alloc: Global,
     answer: Result<Frac, FracFault>,
 ) -> Result<Quantity, EvalFault>
-    ensures { IsEvalResult result (spec.worth_of_number answer) }
+    ensures { IsEvalResult result (spec.value_of_number answer) }
 {
     match answer {
         Ok(x) => Ok(Quantity::number(alloc, x)),
@@ -43,8 +43,8 @@ pub(crate) fn scaled_answer(
     alloc: Global,
     answer: Result<Quantity, FracFault>,
 ) -> Result<Quantity, EvalFault>
-    ensures { (expected : Result Amount StepFault) → IsStepOnNumbers answer expected
-        → IsEvalResult result (spec.amount expected) }
+    ensures { (expected : Result Amount StepFault) → IsQuantityStepOnNumbers answer expected
+        → IsEvalResult result (spec.value_of_quantity_step expected) }
 {
     match answer {
         Ok(q) => Ok(q),
@@ -57,8 +57,8 @@ pub(crate) fn amount_answer(
     alloc: Global,
     answer: Result<Quantity, QuantityFault>,
 ) -> Result<Quantity, EvalFault>
-    ensures { (expected : Result Amount StepFault) → IsAnswer answer expected
-        → IsEvalResult result (spec.amount expected) }
+    ensures { (expected : Result Amount StepFault) → IsQuantityAnswer answer expected
+        → IsEvalResult result (spec.value_of_quantity_step expected) }
 {
     match answer {
         Ok(q) => Ok(q),

@@ -2,9 +2,9 @@
 
 ghost use Rattle.std.specs.Prelude.{◌≡◌, Ok};
 ghost use Rattle.std.specs.Option.{option_copied};
-ghost use Rattle.tree_eval.specs.Answers.{GivesWorth, IsEvalResult};
-ghost use Rattle.tree_eval.specs.Ends.{IsEnd, end_tested};
-ghost use Rattle.tree_eval.specs.Refusals.{refusal_fault};
+ghost use Rattle.tree_eval.specs.Answers.{GivesValueOrFault, IsEvalResult};
+ghost use Rattle.tree_eval.specs.Ends.{IsEvalEnd, value_tested_at_end};
+ghost use Rattle.tree_eval.specs.Refusals.{eval_refusal_fault};
 ghost use Rattle.tree_eval.specs.Tests as spec;
 
 use crate::answer::fraction_answer;
@@ -34,7 +34,7 @@ pub(crate) struct End<'f> {
 impl<'f> End<'f> {
     // The end at which a call takes its argument.
     pub(crate) fn argument(f: &'f FunctionDef) -> End<'f>
-        ensures { IsEnd result Part.InUnit f.now.in_unit f.now.domain Refusal.WrongArgument Refusal.NotInDomain }
+        ensures { IsEvalEnd result Part.InUnit f.now.in_unit f.now.domain Refusal.WrongArgument Refusal.NotInDomain }
     {
         End {
             part: Part::InUnit,
@@ -47,7 +47,7 @@ impl<'f> End<'f> {
 
     // The end at which a call gives its result.
     pub(crate) fn result(f: &'f FunctionDef) -> End<'f>
-        ensures { IsEnd result Part.OutUnit f.now.out_unit f.now.range Refusal.WrongResult Refusal.NotInRange }
+        ensures { IsEvalEnd result Part.OutUnit f.now.out_unit f.now.range Refusal.WrongResult Refusal.NotInRange }
     {
         End {
             part: Part::OutUnit,
@@ -60,7 +60,7 @@ impl<'f> End<'f> {
 
     // The end at which an inverse takes its value.
     pub(crate) fn value(f: &'f FunctionDef) -> End<'f>
-        ensures { IsEnd result Part.OutUnit f.now.out_unit f.now.range Refusal.WrongArgument Refusal.NotInRange }
+        ensures { IsEvalEnd result Part.OutUnit f.now.out_unit f.now.range Refusal.WrongArgument Refusal.NotInRange }
     {
         End {
             wrong: Refusal::WrongArgument,
@@ -70,7 +70,7 @@ impl<'f> End<'f> {
 
     // The end at which an inverse gives its result.
     pub(crate) fn inverse(f: &'f FunctionDef) -> End<'f>
-        ensures { IsEnd result Part.InUnit f.now.in_unit f.now.domain Refusal.WrongResult Refusal.NotInDomain }
+        ensures { IsEvalEnd result Part.InUnit f.now.in_unit f.now.domain Refusal.WrongResult Refusal.NotInDomain }
     {
         End {
             wrong: Refusal::WrongResult,
@@ -87,7 +87,8 @@ impl<'f> End<'f> {
         unit: Option<&Quantity>,
         q: &Quantity,
     ) -> Result<(), EvalFault>
-        ensures { GivesWorth (λ _. q.now) result (end_tested name.now (Ok (option_copied unit.entry)) self.now q.now) }
+        ensures { GivesValueOrFault (λ _. q.now) result
+            (value_tested_at_end name.now (Ok (option_copied unit.entry)) self.now q.now) }
     {
         self.check_unit(alloc, name, unit, q)?;
         self.check_span(alloc, name, unit, q)
@@ -101,7 +102,8 @@ impl<'f> End<'f> {
         unit: Option<&Quantity>,
         q: &Quantity,
     ) -> Result<(), EvalFault>
-        ensures { GivesWorth (λ _. q.now) result (spec.unit_check (refusal_fault self.now.wrong name.now)
+        ensures { GivesValueOrFault (λ _. q.now) result
+            (spec.value_unit_check (eval_refusal_fault self.now.wrong name.now)
             (option_copied unit.entry) self.now.span.now q.now) }
     {
         let conforms = match unit {
@@ -123,7 +125,8 @@ impl<'f> End<'f> {
         unit: Option<&Quantity>,
         q: &Quantity,
     ) -> Result<(), EvalFault>
-        ensures { GivesWorth (λ _. q.now) result (spec.value_inside (refusal_fault self.now.outside name.now)
+        ensures { GivesValueOrFault (λ _. q.now) result
+            (spec.value_inside_span (eval_refusal_fault self.now.outside name.now)
             (option_copied unit.entry) self.now.span.now q.now) }
     {
         let Some(span) = self.span else {
@@ -139,7 +142,7 @@ impl<'f> End<'f> {
 
 // Returns the number of a quantity in the unit, or its own number if there is no unit.
 fn number_in(alloc: Global, unit: Option<&Quantity>, q: &Quantity) -> Result<Frac, EvalFault>
-    ensures { IsEvalResult result (spec.number_in (option_copied unit.entry) q.now) }
+    ensures { IsEvalResult result (spec.value_number_in_unit (option_copied unit.entry) q.now) }
 {
     match unit {
         Some(unit) => fraction_answer(alloc, q.value().div(&unit.value())),
@@ -149,14 +152,14 @@ fn number_in(alloc: Global, unit: Option<&Quantity>, q: &Quantity) -> Result<Fra
 
 // Whether a number is in the span.
 fn is_within(span: &Span, x: &Frac) -> bool
-    ensures { result ≡ spec.is_within span.now x.now }
+    ensures { result ≡ spec.is_value_within_span span.now x.now }
 {
     is_above(&span.low, x) && is_below(&span.high, x)
 }
 
 // Whether a number is above the lower bound, or equal to it if the bound is closed.
 fn is_above(bound: &Option<Bound>, x: &Frac) -> bool
-    ensures { result ≡ spec.is_above bound.now x.now }
+    ensures { result ≡ spec.is_above_value_bound bound.now x.now }
 {
     match bound {
         None => true,
@@ -167,7 +170,7 @@ fn is_above(bound: &Option<Bound>, x: &Frac) -> bool
 
 // Whether a number is below the upper bound, or equal to it if the bound is closed.
 fn is_below(bound: &Option<Bound>, x: &Frac) -> bool
-    ensures { result ≡ spec.is_below bound.now x.now }
+    ensures { result ≡ spec.is_below_value_bound bound.now x.now }
 {
     match bound {
         None => true,

@@ -1,7 +1,7 @@
 //! Why an expression has no value.
 
 ghost use Rattle.std.specs.Prelude.{◌≡◌, IfOk};
-ghost use Rattle.tree_eval.specs.Refusals.{IsEvalFault, IsStepFault};
+ghost use Rattle.tree_eval.specs.Refusals.{IsEvalFault, IsEvalStepFault};
 
 use crate::kept_fault::KeptFault;
 use frac128::FracFault;
@@ -105,7 +105,7 @@ impl EvalFault {
 
     // Wraps the fault of a step on quantities. Returns `OutOfMemory` if there is no memory for it.
     pub(crate) fn of_step(alloc: Global, fault: QuantityFault) -> EvalFault
-        ensures { IsStepFault fault result }
+        ensures { IsEvalStepFault fault result }
     {
         match fault {
             QuantityFault::Number(fault) => EvalFault::of_number(alloc, fault),

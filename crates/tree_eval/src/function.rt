@@ -2,13 +2,13 @@
 
 ghost use Rattle.std.specs.Prelude.{◌≡◌, ◌<◌, IsTrue, Some, length, option_map, slice_get};
 ghost use Rattle.def_entry.specs.Entries as entry;
-ghost use Rattle.def_entry.specs.Views.{function_view, table_view};
+ghost use Rattle.def_entry.specs.Views.{function_entry_view, table_entry_view};
 ghost use Rattle.expr_tree.specs.declared.word_list.WordUse.{WordUse};
 ghost use Rattle.expr_tree.specs.Trees.{syntax};
-ghost use Rattle.tree_eval.specs.Answers.{GivesWorth, IsEvalResult};
-ghost use Rattle.tree_eval.specs.Directions.{IsCalled, direction_value};
-ghost use Rattle.tree_eval.specs.Ends.{end_tested};
-ghost use Rattle.tree_eval.specs.Entries.{words_if};
+ghost use Rattle.tree_eval.specs.Answers.{GivesValueOrFault, IsEvalResult};
+ghost use Rattle.tree_eval.specs.Directions.{HasCallableRank, direction_value};
+ghost use Rattle.tree_eval.specs.Ends.{value_tested_at_end};
+ghost use Rattle.tree_eval.specs.Entries.{eval_tree_words_if};
 ghost use Rattle.tree_eval.specs.Expansions as expanded;
 ghost use Rattle.tree_eval.specs.Expansion.{expand_if};
 ghost use Rattle.tree_eval.specs.Value as spec;
@@ -109,8 +109,8 @@ fn apply_function<E: Env>(
     arg: &Quantity,
 ) -> Result<Quantity, EvalFault>
     requires has { IsTrue (E.has env.now id) }
-    requires is { IsCalled (E.words env.now) (E.means env.now) id (E.callee env.now id)
-        (entry.Function (function_view f.now)) }
+    requires is { HasCallableRank (E.words env.now) (E.means env.now) id (E.callee env.now id)
+        (entry.Function (function_entry_view f.now)) }
     ensures { IsEvalResult result (spec.value_at (E.callee env.now id) arg.now) }
 {
     check_end(alloc, env, id, &End::argument(f), arg)?;
@@ -130,8 +130,8 @@ fn unapply_function<E: Env>(
     value: &Quantity,
 ) -> Result<Quantity, EvalFault>
     requires has { IsTrue (E.has env.now id) }
-    requires is { IsCalled (E.words env.now) (E.means env.now) id (E.callee env.now id)
-        (entry.Function (function_view f.now)) }
+    requires is { HasCallableRank (E.words env.now) (E.means env.now) id (E.callee env.now id)
+        (entry.Function (function_entry_view f.now)) }
     ensures { IsEvalResult result (spec.inverse_value_at (E.callee env.now id) value.now) }
 {
     let Some(inverse) = &f.inverse else {
@@ -154,8 +154,10 @@ fn check_end<E: Env>(
     q: &Quantity,
 ) -> Result<(), EvalFault>
     requires has { IsTrue (E.has env.now id) }
-    requires words { E.words env.now (Holder.Of id end.now.part) ≡ words_if (option_map syntax end.now.unit.now) }
-    ensures { GivesWorth (λ _. q.now) result (end_tested (expanded.callable_name (E.callee env.now id))
+    requires words { E.words env.now (Holder.Of id end.now.part)
+        ≡ eval_tree_words_if (option_map syntax end.now.unit.now) }
+    ensures { GivesValueOrFault (λ _. q.now) result
+        (value_tested_at_end (expanded.eval_callable_name (E.callee env.now id))
         (spec.optional_unit_value (expand_if (E.means env.now) (option_map syntax end.now.unit.now))) end.now q.now) }
 {
     let holder = Holder::Of(id, end.part);
@@ -176,8 +178,8 @@ fn apply_table<E: Env>(
     arg: &Quantity,
 ) -> Result<Quantity, EvalFault>
     requires has { IsTrue (E.has env.now id) }
-    requires is { IsCalled (E.words env.now) (E.means env.now) id (E.callee env.now id)
-        (entry.Table (table_view table.now)) }
+    requires is { HasCallableRank (E.words env.now) (E.means env.now) id (E.callee env.now id)
+        (entry.Table (table_entry_view table.now)) }
     ensures { IsEvalResult result (spec.value_at (E.callee env.now id) arg.now) }
 {
     let name = env.function_name(id);
@@ -200,8 +202,8 @@ fn unapply_table<E: Env>(
     value: &Quantity,
 ) -> Result<Quantity, EvalFault>
     requires has { IsTrue (E.has env.now id) }
-    requires is { IsCalled (E.words env.now) (E.means env.now) id (E.callee env.now id)
-        (entry.Table (table_view table.now)) }
+    requires is { HasCallableRank (E.words env.now) (E.means env.now) id (E.callee env.now id)
+        (entry.Table (table_entry_view table.now)) }
     ensures { IsEvalResult result (spec.inverse_value_at (E.callee env.now id) value.now) }
 {
     let name = env.function_name(id);

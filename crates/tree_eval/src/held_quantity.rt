@@ -2,8 +2,8 @@
 
 ghost use Rattle.std.specs.Prelude.{◌≡◌, IfOk, Ok, option_map};
 ghost use Rattle.std.specs.Option.{option_copied};
-ghost use Rattle.tree_eval.specs.Answers.{GivesWorth, amount_in};
-ghost use Rattle.tree_eval.specs.Steps.{negative_amount, one};
+ghost use Rattle.tree_eval.specs.Answers.{GivesValueOrFault, amount_of_held_value};
+ghost use Rattle.tree_eval.specs.Steps.{negative_value, value_one};
 
 use crate::fault::EvalFault;
 use quantity::Quantity;
@@ -20,7 +20,7 @@ pub(crate) enum Held<'a> {
 impl<'a> Held<'a> {
     // The number 1. It is the placeholder in nested calls until a value is stored.
     pub(crate) fn unity(alloc: Global) -> Held<'a>
-        ensures { amount_in result ≡ one }
+        ensures { amount_of_held_value result ≡ value_one }
     {
         Held::Own(Quantity::unity(alloc))
     }
@@ -35,7 +35,8 @@ impl<'a> Held<'a> {
     // Negates the quantity in place.
     #[inline(never)]
     pub(crate) fn negate(&mut self, alloc: Global) -> Result<(), EvalFault>
-        ensures { GivesWorth (λ _. amount_in self.new) result (Ok (negative_amount (amount_in self.old))) }
+        ensures { GivesValueOrFault (λ _. amount_of_held_value self.new) result
+            (Ok (negative_value (amount_of_held_value self.old))) }
     {
         let q = self.take(alloc).own(alloc)?;
         *self = Held::Own(q.into_negative());
@@ -44,7 +45,7 @@ impl<'a> Held<'a> {
 
     // Borrows the quantity.
     pub(crate) fn get(&self) -> &Quantity
-        ensures { result.now ≡ amount_in self.now }
+        ensures { result.now ≡ amount_of_held_value self.now }
     {
         match self {
             Held::Lent(q) => q,
@@ -54,7 +55,7 @@ impl<'a> Held<'a> {
 
     // Returns the quantity, copied if it is borrowed.
     pub(crate) fn own(self, alloc: Global) -> Result<Quantity, AllocError>
-        ensures { IfOk result (λ q. q ≡ amount_in self.entry) }
+        ensures { IfOk result (λ q. q ≡ amount_of_held_value self.entry) }
     {
         match self {
             Held::Lent(q) => q.copy(alloc),
@@ -65,7 +66,7 @@ impl<'a> Held<'a> {
 
 // Borrows the quantity, if there is one.
 pub(crate) fn lend_quantity<'b>(held: &'b Option<Held<'_>>) -> Option<&'b Quantity>
-    ensures { option_copied result ≡ option_map amount_in held.now }
+    ensures { option_copied result ≡ option_map amount_of_held_value held.now }
 {
     match held {
         Some(held) => Some(held.get()),

@@ -1,13 +1,13 @@
 //! A number and a word side by side, the form of most definitions. It has a shorter path than a general chain.
 
 ghost use Rattle.std.specs.Prelude.{◌≡◌, [], IfSome};
-ghost use Rattle.expr_tree.specs.Trees.{syntax, trees_of};
+ghost use Rattle.expr_tree.specs.Trees.{syntax, syntax_of_trees};
 ghost use Rattle.expr_tree.specs.Words.{words_in};
-ghost use Rattle.tree_eval.specs.Answers.{GivesWorth, IsEvalResult, amount_in};
+ghost use Rattle.tree_eval.specs.Answers.{GivesValueOrFault, IsEvalResult, amount_of_held_value};
 ghost use Rattle.tree_eval.specs.Multiples as spec;
-ghost use Rattle.tree_eval.specs.Operands.{with_worth};
-ghost use Rattle.tree_eval.specs.Steps.{step_worth};
-ghost use Rattle.tree_eval.specs.WordValues.{IsUsable, told_worth};
+ghost use Rattle.tree_eval.specs.Operands.{value_with_operand};
+ghost use Rattle.tree_eval.specs.Steps.{operand_step_value};
+ghost use Rattle.tree_eval.specs.WordValues.{IsUsableEvalMeaning, reported_word_value};
 
 use crate::answer::{amount_answer, number_answer};
 use crate::env::Env;
@@ -33,7 +33,7 @@ pub(crate) enum Factor<'t> {
 impl Factor<'_> {
     // Returns the number.
     fn value(self) -> Result<Frac, FracFault>
-        ensures { result ≡ spec.factor_number self.entry }
+        ensures { result ≡ spec.factor_number_value self.entry }
     {
         match self {
             Factor::Numeral(x) => x.value(),
@@ -46,7 +46,8 @@ impl Factor<'_> {
 // before further calls nest.
 #[inline(never)]
 pub(crate) fn factor_of_word(trees: &Trees) -> Option<Factor<'_>>
-    ensures { IfSome result (λ factor. spec.IsMultiple (trees_of trees.now) (spec.factor_number factor)) }
+    ensures { IfSome result (λ factor. spec.IsOperandMultiple (syntax_of_trees trees.now)
+        (spec.factor_number_value factor)) }
 {
     view_law();
     if trees.len() != 2 {
@@ -60,7 +61,7 @@ pub(crate) fn factor_of_word(trees: &Trees) -> Option<Factor<'_>>
 
 // Returns the number that a tree states literally, if it does.
 fn number_of(tree: &Tree) -> Option<Factor<'_>>
-    ensures says { IfSome result (λ factor. spec.SaysNumber (syntax tree.now) (spec.factor_number factor)) }
+    ensures says { IfSome result (λ factor. spec.HasNumberValue (syntax tree.now) (spec.factor_number_value factor)) }
     ensures wordless { IfSome result (λ _. words_in (syntax tree.now) ≡ []) }
 {
     view_law();
@@ -80,9 +81,10 @@ pub(crate) fn put_multiple<'a, E: Env>(
     meaning: Meaning<'a>,
     held: &mut Held<'a>,
 ) -> Result<(), EvalFault>
-    requires { IsUsable (E.has env.now) meaning }
-    ensures { GivesWorth (λ _. amount_in held.new) result
-        (spec.word_multiple (spec.factor_number factor.entry) (told_worth (E.callee env.now) meaning.entry)) }
+    requires { IsUsableEvalMeaning (E.has env.now) meaning }
+    ensures { GivesValueOrFault (λ _. amount_of_held_value held.new) result
+        (spec.word_multiple_value (spec.factor_number_value factor.entry)
+        (reported_word_value (E.callee env.now) meaning.entry)) }
 {
     let number = number_answer(alloc, factor.value())?;
     *held = Held::Own(multiple(alloc, env, number, meaning)?);
@@ -96,8 +98,9 @@ fn multiple<'a, E: Env>(
     number: Quantity,
     meaning: Meaning<'a>,
 ) -> Result<Quantity, EvalFault>
-    requires { IsUsable (E.has env.now) meaning }
-    ensures { IsEvalResult result (with_worth Step.Multiply number (told_worth (E.callee env.now) meaning.entry)) }
+    requires { IsUsableEvalMeaning (E.has env.now) meaning }
+    ensures { IsEvalResult result
+        (value_with_operand Step.Multiply number (reported_word_value (E.callee env.now) meaning.entry)) }
 {
     match meaning {
         Meaning::One(Outcome::Value(q)) => product(alloc, number, q),
@@ -106,7 +109,7 @@ fn multiple<'a, E: Env>(
 }
 
 fn product(alloc: Global, number: Quantity, q: &Quantity) -> Result<Quantity, EvalFault>
-    ensures { IsEvalResult result (step_worth Step.Multiply number q.now) }
+    ensures { IsEvalResult result (operand_step_value Step.Multiply number q.now) }
 {
     amount_answer(alloc, number.times(alloc, q))
 }

@@ -1,8 +1,8 @@
 //! Numerals.
 
 ghost use Rattle.std.specs.Prelude.{◌≡◌};
-ghost use Rattle.frac128.specs.Decimals.{value_of_decimal};
-ghost use Rattle.tree_eval.specs.Answers.{GivesWorth, amount_in};
+ghost use Rattle.frac128.specs.Decimals.{fraction_of_decimal};
+ghost use Rattle.tree_eval.specs.Answers.{GivesValueOrFault, amount_of_held_value};
 ghost use Rattle.tree_eval.specs.Steps as spec;
 
 use crate::answer::number_answer;
@@ -14,7 +14,8 @@ use std::alloc::Global;
 // Stores the value of a numeral.
 #[inline(never)]
 pub(crate) fn put_numeral(alloc: Global, x: &Numeral, held: &mut Held<'_>) -> Result<(), EvalFault>
-    ensures { GivesWorth (λ _. amount_in held.new) result (spec.worth_of_number (value_of_decimal x.now)) }
+    ensures { GivesValueOrFault (λ _. amount_of_held_value held.new) result
+        (spec.value_of_number (fraction_of_decimal x.now)) }
 {
     *held = Held::Own(number_answer(alloc, x.value())?);
     Ok(())
@@ -28,7 +29,8 @@ pub(crate) fn put_bar(
     y: &Numeral,
     held: &mut Held<'_>,
 ) -> Result<(), EvalFault>
-    ensures { GivesWorth (λ _. amount_in held.new) result (spec.worth_of_number (spec.numeral_quotient x.now y.now)) }
+    ensures { GivesValueOrFault (λ _. amount_of_held_value held.new) result
+        (spec.value_of_number (spec.numeral_quotient_value x.now y.now)) }
 {
     *held = Held::Own(number_answer(alloc, quotient(x, y))?);
     Ok(())
@@ -36,7 +38,7 @@ pub(crate) fn put_bar(
 
 // Returns the quotient of two numerals as a fraction.
 pub(crate) fn quotient(x: &Numeral, y: &Numeral) -> Result<Frac, FracFault>
-    ensures { result ≡ spec.numeral_quotient x.now y.now }
+    ensures { result ≡ spec.numeral_quotient_value x.now y.now }
 {
     x.value()?.div(&y.value()?)
 }

@@ -1,7 +1,7 @@
 //! The members of a juxtaposition, a product or a sum, in a common form.
 
 ghost use Rattle.std.specs.Prelude.{◌≡◌, ◌<◌, Some, length, slice_get};
-ghost use Rattle.tree_eval.specs.Operands.{operand, operands_of};
+ghost use Rattle.tree_eval.specs.Operands.{operand, operands_with_steps};
 
 use crate::step::Step;
 use expr_tree::{Factors, Terms, Tree, Trees};
@@ -24,7 +24,7 @@ pub(crate) struct Operand<'t> {
 impl<'t> Operands<'t> {
     // The number of members.
     pub(crate) fn len(&self) -> usize
-        ensures { result ≡ length (operands_of self.now) }
+        ensures { result ≡ length (operands_with_steps self.now) }
     {
         match self {
             Operands::Juxtaposed(trees) => trees.len(),
@@ -35,8 +35,8 @@ impl<'t> Operands<'t> {
 
     // Returns the member at a place.
     pub(crate) fn get(&self, i: usize) -> Operand<'t>
-        requires { i < length (operands_of self.now) }
-        ensures { slice_get (operands_of self.now) i ≡ Some (operand result) }
+        requires { i < length (operands_with_steps self.now) }
+        ensures { slice_get (operands_with_steps self.now) i ≡ Some (operand result) }
     {
         match self {
             Operands::Juxtaposed(trees) => Operand {

@@ -1,7 +1,7 @@
 //! Powers and roots.
 
-ghost use Rattle.quantity.specs.Powers.{power_of};
-ghost use Rattle.tree_eval.specs.Answers.{GivesWorth, IsEvalResult, amount_in};
+ghost use Rattle.quantity.specs.Powers.{quantity_power};
+ghost use Rattle.tree_eval.specs.Answers.{GivesValueOrFault, IsEvalResult, amount_of_held_value};
 ghost use Rattle.tree_eval.specs.Steps as spec;
 
 use crate::answer::{amount_answer, number_answer};
@@ -19,7 +19,8 @@ pub(crate) fn take_power(
     held: &mut Held<'_>,
     exponent: &Quantity,
 ) -> Result<(), EvalFault>
-    ensures { GivesWorth (λ _. amount_in held.new) result (spec.amount (power_of (amount_in held.old) exponent.now)) }
+    ensures { GivesValueOrFault (λ _. amount_of_held_value held.new) result
+        (spec.value_of_quantity_step (quantity_power (amount_of_held_value held.old) exponent.now)) }
 {
     let base = held.take(alloc);
     *held = Held::Own(power(alloc, base, exponent)?);
@@ -29,7 +30,8 @@ pub(crate) fn take_power(
 // Replaces the held quantity by its root of the given kind.
 #[inline(never)]
 pub(crate) fn take_root(alloc: Global, kind: RootKind, held: &mut Held<'_>) -> Result<(), EvalFault>
-    ensures { GivesWorth (λ _. amount_in held.new) result (spec.root_worth kind (amount_in held.old)) }
+    ensures { GivesValueOrFault (λ _. amount_of_held_value held.new) result
+        (spec.root_value kind (amount_of_held_value held.old)) }
 {
     let base = held.take(alloc);
     *held = Held::Own(root(alloc, kind, base)?);
@@ -38,7 +40,8 @@ pub(crate) fn take_root(alloc: Global, kind: RootKind, held: &mut Held<'_>) -> R
 
 // Returns a power. It reuses the names of its base.
 fn power(alloc: Global, base: Held<'_>, exponent: &Quantity) -> Result<Quantity, EvalFault>
-    ensures { IsEvalResult result (spec.amount (power_of (amount_in base.entry) exponent.now)) }
+    ensures { IsEvalResult result
+        (spec.value_of_quantity_step (quantity_power (amount_of_held_value base.entry) exponent.now)) }
 {
     let base = base.own(alloc)?;
     amount_answer(alloc, base.into_power(alloc, exponent))
@@ -46,7 +49,7 @@ fn power(alloc: Global, base: Held<'_>, exponent: &Quantity) -> Result<Quantity,
 
 // Returns the root of the given kind.
 fn root(alloc: Global, kind: RootKind, base: Held<'_>) -> Result<Quantity, EvalFault>
-    ensures { IsEvalResult result (spec.root_worth kind (amount_in base.entry)) }
+    ensures { IsEvalResult result (spec.root_value kind (amount_of_held_value base.entry)) }
 {
     let exponent = number_answer(alloc, Frac::new(1, i128::from(kind.degree())))?;
     power(alloc, base, &exponent)

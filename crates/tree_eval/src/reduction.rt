@@ -1,11 +1,11 @@
 //! Computes the outcome of a single name.
 
 ghost use Rattle.std.specs.Prelude.{◌≡◌, ◌+◌, IfOk};
-ghost use Rattle.def_entry.specs.Views.{what_view};
-ghost use Rattle.tree_eval.specs.Entries.{meaning_of};
-ghost use Rattle.tree_eval.specs.Environment.{HasTarget, HoldsWords};
-ghost use Rattle.tree_eval.specs.Outcomes.{outcome_of};
-ghost use Rattle.tree_eval.specs.WordValues.{IsStoredOutcome};
+ghost use Rattle.def_entry.specs.Views.{entry_definition_view};
+ghost use Rattle.tree_eval.specs.Entries.{evaluated_meaning};
+ghost use Rattle.tree_eval.specs.Environment.{HasEvalAliasTarget, HoldsEvalWords};
+ghost use Rattle.tree_eval.specs.Outcomes.{outcome_of_eval_meaning};
+ghost use Rattle.tree_eval.specs.WordValues.{IsStoredValueOutcome};
 
 use crate::env::Env;
 use crate::fault::EvalFault;
@@ -28,10 +28,10 @@ pub fn reduce<E: Env, L: Ledger>(
     what: &What,
     steps: &mut Steps<L>,
 ) -> Result<Outcome, AllocError>
-    requires words { HoldsWords (E.words env.now) id (what_view what.now) }
-    requires target { HasTarget (E.means env.now) (what_view what.now) }
+    requires words { HoldsEvalWords (E.words env.now) id (entry_definition_view what.now) }
+    requires target { HasEvalAliasTarget (E.means env.now) (entry_definition_view what.now) }
     ensures outcome { IfOk result (λ outcome. outcome
-        ≡ outcome_of (meaning_of (E.means env.now) name.now (what_view what.now))) }
+        ≡ outcome_of_eval_meaning (evaluated_meaning (E.means env.now) name.now (entry_definition_view what.now))) }
     ensures steps { steps.new ≡ steps.old + 1 }
 {
     steps.tick();
@@ -45,7 +45,7 @@ pub fn reduce<E: Env, L: Ledger>(
 
 // Turns a value or a fault into an outcome.
 fn to_outcome(worth: Result<Quantity, EvalFault>) -> Result<Outcome, AllocError>
-    ensures { IsStoredOutcome result worth }
+    ensures { IsStoredValueOutcome result worth }
 {
     match worth {
         Ok(q) => Ok(Outcome::Value(q)),

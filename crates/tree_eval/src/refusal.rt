@@ -24,7 +24,7 @@ impl Refusal {
     // Returns the fault with the name of the function, or `OutOfMemory` if there is no memory for it.
     #[inline(never)]
     pub(crate) fn by(self, alloc: Global, name: &[u8]) -> EvalFault
-        ensures { spec.IsEvalFault result (spec.refusal_fault self name.now) }
+        ensures { spec.IsEvalFault result (spec.eval_refusal_fault self name.now) }
     {
         match Text::from_bytes(alloc, name) {
             Ok(name) => EvalFault::of_value(alloc, self.with_name(name)),
@@ -33,7 +33,7 @@ impl Refusal {
     }
 
     fn with_name(self, name: Text) -> ValueFault
-        ensures { result ≡ spec.refusal_fault self name }
+        ensures { result ≡ spec.eval_refusal_fault self name }
     {
         match self {
             Refusal::NotInDomain => ValueFault::NotInDomain(name),

@@ -5,15 +5,16 @@
 ghost use Rattle.std.specs.Prelude.{◌≡◌, ◌+◌, ◌++◌, ◌<◌, IfOk, IsTrue, OnOk, Some, length, map, slice_get};
 ghost use Rattle.std.specs.Option.{option_copied};
 ghost use Rattle.expr_tree.specs.declared.word_list.WordUse.{WordUse};
-ghost use Rattle.expr_tree.specs.Trees.{syntax, trees_of};
+ghost use Rattle.expr_tree.specs.Trees.{syntax, syntax_of_trees};
 ghost use Rattle.expr_tree.specs.Words.{words_in};
-ghost use Rattle.tree_eval.specs.Answers.{GivesWorth, IsEvalResult, amount_in};
+ghost use Rattle.tree_eval.specs.Answers.{GivesValueOrFault, IsEvalResult, amount_of_held_value};
 ghost use Rattle.tree_eval.specs.Directions.{direction_value, operand_expansion};
-ghost use Rattle.tree_eval.specs.Environment.{IsMeaningTold, Stand};
+ghost use Rattle.tree_eval.specs.Environment.{IsEvalWordRun, IsReportedEvalMeaning};
 ghost use Rattle.tree_eval.specs.Expansions as expanded;
-ghost use Rattle.tree_eval.specs.Expansion.{expand, expanded_meaning};
-ghost use Rattle.tree_eval.specs.Operands.{by_side, chain, operands_of, with_worth, words_of_members};
-ghost use Rattle.tree_eval.specs.WordValues.{IsUsable};
+ghost use Rattle.tree_eval.specs.Expansion.{eval_meaning_expansion, expand};
+ghost use Rattle.tree_eval.specs.Operands.{chain, operand_by_side, operands_with_steps, value_with_operand};
+ghost use Rattle.tree_eval.specs.Operands.{words_of_operands};
+ghost use Rattle.tree_eval.specs.WordValues.{IsUsableEvalMeaning};
 ghost use Rattle.tree_eval.specs.Value as spec;
 
 use crate::direction::Direction;
@@ -61,7 +62,7 @@ pub(crate) fn evaluate_holder<'a, E: Env>(
     arg: Option<&'a Quantity>,
 ) -> Result<Held<'a>, EvalFault>
     requires { E.words env.now holder ≡ words_in (syntax tree.now) }
-    ensures { GivesWorth amount_in result
+    ensures { GivesValueOrFault amount_of_held_value result
         (spec.value (expand (E.means env.now) (syntax tree.now)) (option_copied arg.entry)) }
 {
     let scope = Scope {
@@ -92,8 +93,8 @@ impl<'a, E: Env> Scope<'a, E> {
     #[cycle(eval)]
     #[inline(never)]
     fn evaluate(&self, tree: &Tree, place: &mut usize, held: &mut Held<'a>) -> Result<(), EvalFault>
-        requires { Stand (E.words self.now.env.now self.now.holder) place.old (words_in (syntax tree.now)) }
-        ensures worth { GivesWorth (λ _. amount_in held.new) result (spec.value
+        requires { IsEvalWordRun (E.words self.now.env.now self.now.holder) place.old (words_in (syntax tree.now)) }
+        ensures worth { GivesValueOrFault (λ _. amount_of_held_value held.new) result (spec.value
             (expand (E.means self.now.env.now) (syntax tree.now)) (option_copied self.now.arg)) }
         ensures place { OnOk result (place.new ≡ place.old + length (words_in (syntax tree.now))) }
     {
@@ -134,8 +135,8 @@ impl<'a, E: Env> Scope<'a, E> {
         place: &mut usize,
         held: &mut Held<'a>,
     ) -> Result<(), EvalFault>
-        requires { Stand (E.words self.now.env.now self.now.holder) place.old (words_in (syntax operand.now)) }
-        ensures worth { GivesWorth (λ _. amount_in held.new) result (spec.value
+        requires { IsEvalWordRun (E.words self.now.env.now self.now.holder) place.old (words_in (syntax operand.now)) }
+        ensures worth { GivesValueOrFault (λ _. amount_of_held_value held.new) result (spec.value
             (expanded.Root kind (expand (E.means self.now.env.now) (syntax operand.now)))
             (option_copied self.now.arg)) }
         ensures place { OnOk result (place.new ≡ place.old + length (words_in (syntax operand.now))) }
@@ -153,8 +154,8 @@ impl<'a, E: Env> Scope<'a, E> {
         place: &mut usize,
         held: &mut Held<'a>,
     ) -> Result<(), EvalFault>
-        requires { Stand (E.words self.now.env.now self.now.holder) place.old (words_in (syntax operand.now)) }
-        ensures worth { GivesWorth (λ _. amount_in held.new) result (spec.value
+        requires { IsEvalWordRun (E.words self.now.env.now self.now.holder) place.old (words_in (syntax operand.now)) }
+        ensures worth { GivesValueOrFault (λ _. amount_of_held_value held.new) result (spec.value
             (expanded.Negated (expand (E.means self.now.env.now) (syntax operand.now))) (option_copied self.now.arg)) }
         ensures place { OnOk result (place.new ≡ place.old + length (words_in (syntax operand.now))) }
     {
@@ -172,9 +173,9 @@ impl<'a, E: Env> Scope<'a, E> {
         place: &mut usize,
         held: &mut Held<'a>,
     ) -> Result<(), EvalFault>
-        requires { Stand (E.words self.now.env.now self.now.holder) place.old
+        requires { IsEvalWordRun (E.words self.now.env.now self.now.holder) place.old
             (words_in (syntax base.now) ++ words_in (syntax exponent.now)) }
-        ensures worth { GivesWorth (λ _. amount_in held.new) result (spec.value (expanded.Power
+        ensures worth { GivesValueOrFault (λ _. amount_of_held_value held.new) result (spec.value (expanded.Power
             (expand (E.means self.now.env.now) (syntax base.now))
             (expand (E.means self.now.env.now) (syntax exponent.now))) (option_copied self.now.arg)) }
         ensures place { OnOk result (place.new ≡ place.old
@@ -191,8 +192,8 @@ impl<'a, E: Env> Scope<'a, E> {
     fn word(&self, place: &mut usize, held: &mut Held<'a>) -> Result<(), EvalFault>
         requires { place.old < length (E.words self.now.env.now self.now.holder) }
         ensures worth { (u : WordUse) → slice_get (E.words self.now.env.now self.now.holder) place.old ≡ Some u
-            → GivesWorth (λ _. amount_in held.new) result
-            (spec.value (expanded_meaning (E.means self.now.env.now u)) (option_copied self.now.arg)) }
+            → GivesValueOrFault (λ _. amount_of_held_value held.new) result
+            (spec.value (eval_meaning_expansion (E.means self.now.env.now u)) (option_copied self.now.arg)) }
         ensures place { OnOk result (place.new ≡ place.old + 1) }
     {
         let meaning = self.next_meaning(place)?;
@@ -204,8 +205,9 @@ impl<'a, E: Env> Scope<'a, E> {
     fn with_word(&self, step: Step, place: &mut usize, held: &mut Held<'a>) -> Result<(), EvalFault>
         requires { place.old < length (E.words self.now.env.now self.now.holder) }
         ensures worth { (u : WordUse) → slice_get (E.words self.now.env.now self.now.holder) place.old ≡ Some u
-            → GivesWorth (λ _. amount_in held.new) result (with_worth step (amount_in held.old)
-            (spec.value (expanded_meaning (E.means self.now.env.now u)) (option_copied self.now.arg))) }
+            → GivesValueOrFault (λ _. amount_of_held_value held.new) result
+            (value_with_operand step (amount_of_held_value held.old)
+            (spec.value (eval_meaning_expansion (E.means self.now.env.now u)) (option_copied self.now.arg))) }
         ensures place { OnOk result (place.new ≡ place.old + 1) }
     {
         let meaning = self.next_meaning(place)?;
@@ -219,7 +221,8 @@ impl<'a, E: Env> Scope<'a, E> {
         requires { place.old < length (E.words self.now.env.now self.now.holder) }
         ensures told { IfOk result (λ meaning. (u : WordUse)
             → slice_get (E.words self.now.env.now self.now.holder) place.old ≡ Some u
-            → IsMeaningTold (E.has self.now.env.now) (E.callee self.now.env.now) (E.means self.now.env.now u) meaning) }
+            → IsReportedEvalMeaning (E.has self.now.env.now) (E.callee self.now.env.now)
+            (E.means self.now.env.now u) meaning) }
         ensures place { OnOk result (place.new ≡ place.old + 1) }
     {
         let next = place.checked_add(1).ok_or(AllocError)?;
@@ -239,11 +242,12 @@ impl<'a, E: Env> Scope<'a, E> {
         place: &mut usize,
         held: &mut Held<'a>,
     ) -> Result<(), EvalFault>
-        requires usable { IsUsable (E.has self.now.env.now) meaning }
-        requires stand { Stand (E.words self.now.env.now self.now.holder) place.old (words_in (syntax operand.now)) }
-        ensures worth { (m : expanded.Meaning)
-            → IsMeaningTold (E.has self.now.env.now) (E.callee self.now.env.now) m meaning.entry
-            → GivesWorth (λ _. amount_in held.new) result (spec.value
+        requires usable { IsUsableEvalMeaning (E.has self.now.env.now) meaning }
+        requires stand { IsEvalWordRun (E.words self.now.env.now self.now.holder) place.old
+            (words_in (syntax operand.now)) }
+        ensures worth { (m : expanded.EvalMeaning)
+            → IsReportedEvalMeaning (E.has self.now.env.now) (E.callee self.now.env.now) m meaning.entry
+            → GivesValueOrFault (λ _. amount_of_held_value held.new) result (spec.value
             (operand_expansion direction m (expand (E.means self.now.env.now) (syntax operand.now)))
             (option_copied self.now.arg)) }
         ensures place { OnOk result (place.new ≡ place.old + length (words_in (syntax operand.now))) }
@@ -267,12 +271,13 @@ impl<'a, E: Env> Scope<'a, E> {
         place: &mut usize,
         held: &mut Held<'a>,
     ) -> Result<(), EvalFault>
-        requires { Stand (E.words self.now.env.now self.now.holder) place.old
-            (words_of_members (map by_side (trees_of trees.now))) }
-        ensures worth { GivesWorth (λ _. amount_in held.new) result (spec.value
-            (chain (E.means self.now.env.now) (map by_side (trees_of trees.now))) (option_copied self.now.arg)) }
+        requires { IsEvalWordRun (E.words self.now.env.now self.now.holder) place.old
+            (words_of_operands (map operand_by_side (syntax_of_trees trees.now))) }
+        ensures worth { GivesValueOrFault (λ _. amount_of_held_value held.new) result (spec.value
+            (chain (E.means self.now.env.now) (map operand_by_side (syntax_of_trees trees.now)))
+            (option_copied self.now.arg)) }
         ensures place { OnOk result (place.new ≡ place.old
-            + length (words_of_members (map by_side (trees_of trees.now)))) }
+            + length (words_of_operands (map operand_by_side (syntax_of_trees trees.now)))) }
     {
         match factor_of_word(trees) {
             Some(factor) => {
@@ -292,10 +297,12 @@ impl<'a, E: Env> Scope<'a, E> {
         place: &mut usize,
         held: &mut Held<'a>,
     ) -> Result<(), EvalFault>
-        requires { Stand (E.words self.now.env.now self.now.holder) place.old (words_of_members (operands_of operands)) }
-        ensures worth { GivesWorth (λ _. amount_in held.new) result (spec.value
-            (chain (E.means self.now.env.now) (operands_of operands.entry)) (option_copied self.now.arg)) }
-        ensures place { OnOk result (place.new ≡ place.old + length (words_of_members (operands_of operands.entry))) }
+        requires { IsEvalWordRun (E.words self.now.env.now self.now.holder) place.old
+            (words_of_operands (operands_with_steps operands)) }
+        ensures worth { GivesValueOrFault (λ _. amount_of_held_value held.new) result (spec.value
+            (chain (E.means self.now.env.now) (operands_with_steps operands.entry)) (option_copied self.now.arg)) }
+        ensures place { OnOk result
+            (place.new ≡ place.old + length (words_of_operands (operands_with_steps operands.entry))) }
     {
         if operands.len() == 0 {
             *held = Held::unity(self.alloc);
@@ -316,8 +323,10 @@ impl<'a, E: Env> Scope<'a, E> {
         place: &mut usize,
         held: &mut Held<'a>,
     ) -> Result<(), EvalFault>
-        requires { Stand (E.words self.now.env.now self.now.holder) place.old (words_in (syntax operand.tree.now)) }
-        ensures worth { GivesWorth (λ _. amount_in held.new) result (with_worth operand.entry.step (amount_in held.old)
+        requires { IsEvalWordRun (E.words self.now.env.now self.now.holder) place.old
+            (words_in (syntax operand.tree.now)) }
+        ensures worth { GivesValueOrFault (λ _. amount_of_held_value held.new) result
+            (value_with_operand operand.entry.step (amount_of_held_value held.old)
             (spec.value (expand (E.means self.now.env.now) (syntax operand.entry.tree.now))
             (option_copied self.now.arg))) }
         ensures place { OnOk result (place.new ≡ place.old + length (words_in (syntax operand.entry.tree.now))) }
@@ -339,8 +348,10 @@ impl<'a, E: Env> Scope<'a, E> {
         place: &mut usize,
         held: &mut Held<'a>,
     ) -> Result<(), EvalFault>
-        requires { Stand (E.words self.now.env.now self.now.holder) place.old (words_in (syntax operand.tree.now)) }
-        ensures worth { GivesWorth (λ _. amount_in held.new) result (with_worth operand.entry.step (amount_in held.old)
+        requires { IsEvalWordRun (E.words self.now.env.now self.now.holder) place.old
+            (words_in (syntax operand.tree.now)) }
+        ensures worth { GivesValueOrFault (λ _. amount_of_held_value held.new) result
+            (value_with_operand operand.entry.step (amount_of_held_value held.old)
             (spec.value (expand (E.means self.now.env.now) (syntax operand.entry.tree.now))
             (option_copied self.now.arg))) }
         ensures place { OnOk result (place.new ≡ place.old + length (words_in (syntax operand.entry.tree.now))) }
@@ -354,7 +365,7 @@ impl<'a, E: Env> Scope<'a, E> {
 // Stores the argument, or 1 if none is given.
 #[inline(never)]
 fn put_argument<'a>(alloc: Global, arg: Option<&'a Quantity>, held: &mut Held<'a>)
-    ensures { amount_in held.new ≡ spec.argument_or_one (option_copied arg.entry) }
+    ensures { amount_of_held_value held.new ≡ spec.argument_or_one (option_copied arg.entry) }
 {
     *held = match arg {
         Some(arg) => Held::Lent(arg),
@@ -373,8 +384,8 @@ fn put_taken<E: Env>(
     held: &mut Held<'_>,
 ) -> Result<(), EvalFault>
     requires { IsTrue (E.has env.now id) }
-    ensures { GivesWorth (λ _. amount_in held.new) result
-        (direction_value direction (E.callee env.now id) (amount_in held.old)) }
+    ensures { GivesValueOrFault (λ _. amount_of_held_value held.new) result
+        (direction_value direction (E.callee env.now id) (amount_of_held_value held.old)) }
 {
     *held = Held::Own(take(alloc, env, direction, id, held.get())?);
     Ok(())

@@ -1,11 +1,11 @@
 //! The steps that combine a running value with one more member.
 
 ghost use Rattle.std.specs.Prelude.{◌≡◌};
-ghost use Rattle.quantity.specs.Answers.{IsAnswer};
-ghost use Rattle.frac128.specs.Decimals.{value_of_decimal};
-ghost use Rattle.tree_eval.specs.Answers.{GivesWorth, IsEvalResult, amount_in};
-ghost use Rattle.tree_eval.specs.Expansion.{scale_step, sign_step};
-ghost use Rattle.tree_eval.specs.Operands.{with_worth};
+ghost use Rattle.quantity.specs.Answers.{IsQuantityAnswer};
+ghost use Rattle.frac128.specs.Decimals.{fraction_of_decimal};
+ghost use Rattle.tree_eval.specs.Answers.{GivesValueOrFault, IsEvalResult, amount_of_held_value};
+ghost use Rattle.tree_eval.specs.Expansion.{scale_operand_step, sign_operand_step};
+ghost use Rattle.tree_eval.specs.Operands.{value_with_operand};
 ghost use Rattle.tree_eval.specs.Steps as spec;
 
 use crate::answer::{amount_answer, fraction_answer, scaled_answer};
@@ -32,7 +32,7 @@ pub enum Step {
 impl Step {
     // The step for a member of a product.
     pub(crate) fn of_scale(scale: Scale) -> Step
-        ensures { result ≡ scale_step scale }
+        ensures { result ≡ scale_operand_step scale }
     {
         match scale {
             Scale::Multiply => Step::Multiply,
@@ -42,7 +42,7 @@ impl Step {
 
     // The step for a member of a sum.
     pub(crate) fn of_sign(sign: Sign) -> Step
-        ensures { result ≡ sign_step sign }
+        ensures { result ≡ sign_operand_step sign }
     {
         match sign {
             Sign::Plus => Step::Add,
@@ -57,7 +57,7 @@ impl Step {
         left: Held<'_>,
         right: &Quantity,
     ) -> Result<Quantity, EvalFault>
-        ensures { IsEvalResult result (spec.step_worth self (amount_in left.entry) right.now) }
+        ensures { IsEvalResult result (spec.operand_step_value self (amount_of_held_value left.entry) right.now) }
     {
         let left = left.own(alloc)?;
         amount_answer(alloc, self.join_owned(alloc, left, right))
@@ -71,8 +71,8 @@ impl Step {
         held: &mut Held<'_>,
         right: &Quantity,
     ) -> Result<(), EvalFault>
-        ensures { GivesWorth (λ _. amount_in held.new) result
-            (spec.step_worth self (amount_in held.old) right.now) }
+        ensures { GivesValueOrFault (λ _. amount_of_held_value held.new) result
+            (spec.operand_step_value self (amount_of_held_value held.old) right.now) }
     {
         let left = held.take(alloc);
         *held = Held::Own(self.join(alloc, left, right)?);
@@ -88,8 +88,8 @@ impl Step {
         held: &mut Held<'_>,
         right: &mut Held<'_>,
     ) -> Result<(), EvalFault>
-        ensures { GivesWorth (λ _. amount_in held.new) result
-            (spec.step_worth self (amount_in held.old) (amount_in right.old)) }
+        ensures { GivesValueOrFault (λ _. amount_of_held_value held.new) result
+            (spec.operand_step_value self (amount_of_held_value held.old) (amount_of_held_value right.old)) }
     {
         let left = held.take(alloc);
         *held = Held::Own(self.join_held(alloc, left, right.take(alloc))?);
@@ -104,8 +104,9 @@ impl Step {
         held: &mut Held<'_>,
         right: &Numeral,
     ) -> Result<(), EvalFault>
-        ensures { GivesWorth (λ _. amount_in held.new) result
-            (with_worth self (amount_in held.old) (spec.worth_of_number (value_of_decimal right.now))) }
+        ensures { GivesValueOrFault (λ _. amount_of_held_value held.new) result
+            (value_with_operand self (amount_of_held_value held.old)
+            (spec.value_of_number (fraction_of_decimal right.now))) }
     {
         let right = fraction_answer(alloc, right.value())?;
         let left = held.take(alloc);
@@ -121,7 +122,8 @@ impl Step {
         left: Held<'_>,
         right: Held<'_>,
     ) -> Result<Quantity, EvalFault>
-        ensures { IsEvalResult result (spec.step_worth self (amount_in left.entry) (amount_in right.entry)) }
+        ensures { IsEvalResult result
+            (spec.operand_step_value self (amount_of_held_value left.entry) (amount_of_held_value right.entry)) }
     {
         let left = left.own(alloc)?;
         amount_answer(alloc, self.join_all(alloc, left, right))
@@ -129,7 +131,8 @@ impl Step {
 
     // Returns the running value combined with a number.
     fn join_number(self, alloc: Global, left: Held<'_>, right: &Frac) -> Result<Quantity, EvalFault>
-        ensures { IsEvalResult result (spec.step_worth self (amount_in left.entry) (spec.plain_number right.now)) }
+        ensures { IsEvalResult result
+            (spec.operand_step_value self (amount_of_held_value left.entry) (spec.plain_number_value right.now)) }
     {
         let left = left.own(alloc)?;
         match self {
@@ -148,7 +151,7 @@ impl Step {
         left: Quantity,
         right: Held<'_>,
     ) -> Result<Quantity, QuantityFault>
-        ensures { IsAnswer result (spec.step_of self left (amount_in right.entry)) }
+        ensures { IsQuantityAnswer result (spec.operand_step self left (amount_of_held_value right.entry)) }
     {
         match self {
             Step::Multiply => match right {
@@ -165,7 +168,7 @@ impl Step {
         left: Quantity,
         right: &Quantity,
     ) -> Result<Quantity, QuantityFault>
-        ensures { IsAnswer result (spec.step_of self left right.now) }
+        ensures { IsQuantityAnswer result (spec.operand_step self left right.now) }
     {
         match self {
             Step::Multiply => left.times(alloc, right),

@@ -16,7 +16,7 @@ pub(crate) fn looked_up(
     name: &[u8],
     found: Result<Frac, TableFault>,
 ) -> Result<Quantity, EvalFault>
-    ensures { IsEvalResult result (spec.looked_up name.now found) }
+    ensures { IsEvalResult result (spec.table_lookup_value name.now found) }
 {
     match found {
         Ok(x) => Ok(Quantity::number(alloc, x)),

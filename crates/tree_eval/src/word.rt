@@ -2,8 +2,8 @@
 
 ghost use Rattle.std.specs.Prelude.{◌≢◌};
 ghost use Rattle.tree_eval.specs.Answers as answer;
-ghost use Rattle.tree_eval.specs.Operands.{with_worth};
-ghost use Rattle.tree_eval.specs.Outcomes.{worth_in};
+ghost use Rattle.tree_eval.specs.Operands.{value_with_operand};
+ghost use Rattle.tree_eval.specs.Outcomes.{value_in_outcome};
 ghost use Rattle.tree_eval.specs.WordValues as spec;
 
 use crate::env::Env;
@@ -23,8 +23,9 @@ fn word_worth<'a, E: Env>(
     env: &'a E,
     meaning: Meaning<'a>,
 ) -> Result<Held<'a>, EvalFault>
-    requires { spec.IsUsable (E.has env.now) meaning }
-    ensures { answer.GivesWorth answer.amount_in result (spec.told_worth (E.callee env.now) meaning.entry) }
+    requires { spec.IsUsableEvalMeaning (E.has env.now) meaning }
+    ensures { answer.GivesValueOrFault answer.amount_of_held_value result
+        (spec.reported_word_value (E.callee env.now) meaning.entry) }
 {
     match meaning {
         Meaning::One(outcome) => Ok(Held::Lent(quantity_of(alloc, outcome)?)),
@@ -41,9 +42,9 @@ pub(crate) fn put_word<'a, E: Env>(
     meaning: Meaning<'a>,
     held: &mut Held<'a>,
 ) -> Result<(), EvalFault>
-    requires { spec.IsUsable (E.has env.now) meaning }
-    ensures { answer.GivesWorth (λ _. answer.amount_in held.new) result
-        (spec.told_worth (E.callee env.now) meaning.entry) }
+    requires { spec.IsUsableEvalMeaning (E.has env.now) meaning }
+    ensures { answer.GivesValueOrFault (λ _. answer.amount_of_held_value held.new) result
+        (spec.reported_word_value (E.callee env.now) meaning.entry) }
 {
     *held = word_worth(alloc, env, meaning)?;
     Ok(())
@@ -58,9 +59,10 @@ pub(crate) fn take_word<'a, E: Env>(
     step: Step,
     meaning: Meaning<'a>,
 ) -> Result<(), EvalFault>
-    requires { spec.IsUsable (E.has env.now) meaning }
-    ensures { answer.GivesWorth (λ _. answer.amount_in held.new) result (with_worth step (answer.amount_in held.old)
-        (spec.told_worth (E.callee env.now) meaning.entry)) }
+    requires { spec.IsUsableEvalMeaning (E.has env.now) meaning }
+    ensures { answer.GivesValueOrFault (λ _. answer.amount_of_held_value held.new) result
+        (value_with_operand step (answer.amount_of_held_value held.old)
+        (spec.reported_word_value (E.callee env.now) meaning.entry)) }
 {
     let left = held.take(alloc);
     *held = Held::Own(join_word(alloc, env, left, step, meaning)?);
@@ -75,9 +77,9 @@ pub(crate) fn join_word<'a, E: Env>(
     step: Step,
     meaning: Meaning<'a>,
 ) -> Result<Quantity, EvalFault>
-    requires { spec.IsUsable (E.has env.now) meaning }
-    ensures { answer.IsEvalResult result (with_worth step (answer.amount_in left.entry)
-        (spec.told_worth (E.callee env.now) meaning.entry)) }
+    requires { spec.IsUsableEvalMeaning (E.has env.now) meaning }
+    ensures { answer.IsEvalResult result (value_with_operand step (answer.amount_of_held_value left.entry)
+        (spec.reported_word_value (E.callee env.now) meaning.entry)) }
 {
     match meaning {
         Meaning::One(Outcome::Value(q)) => step.join(alloc, left, q),
@@ -89,7 +91,8 @@ pub(crate) fn join_word<'a, E: Env>(
 fn both(alloc: Global, prefix: &Outcome, unit: &Outcome) -> Result<Quantity, EvalFault>
     requires prefix { prefix.now ≢ Outcome.Callable }
     requires unit { unit.now ≢ Outcome.Callable }
-    ensures { answer.IsEvalResult result (spec.both_worths (worth_in prefix.now) (worth_in unit.now)) }
+    ensures { answer.IsEvalResult result
+        (spec.prefix_and_unit_value (value_in_outcome prefix.now) (value_in_outcome unit.now)) }
 {
     let prefix = quantity_of(alloc, prefix)?;
     let unit = quantity_of(alloc, unit)?;

@@ -8,17 +8,17 @@ use Rattle.std.proofs.Math.Nat.{div-add-mod, le_of_mul-le-mul_right, lt_of_mul-l
 use Rattle.std.proofs.Math.Nat.{mul-lt-mul_of_pos_right, mul-pos}
 use Rattle.frac128.specs.declared.fault.FracFault.{FracFault}
 use Rattle.frac128.specs.Divisors.{LcmLaw}
-use Rattle.frac128.specs.Floor.{floor_of}
-use Rattle.frac128.specs.Fraction.{Fraction, IsReduced, whole}
-use Rattle.frac128.specs.Steps.{◌>>=◌, ReducedLaw, fraction_product, fraction_quotient}
-use Rattle.frac128.specs.Sums.{minus}
+use Rattle.frac128.specs.Floor.{fraction_floor}
+use Rattle.frac128.specs.Fraction.{Fraction, IsReducedFraction, whole_fraction}
+use Rattle.frac128.specs.Steps.{◌>>=◌, ReducedFractionLaw, fraction_product, fraction_quotient}
+use Rattle.frac128.specs.Sums.{fraction_difference}
 use Rattle.unit_list.specs.declared.part.Part.{Part}
-use Rattle.frac128.specs.Exact.{difference, product, sum}
-use Rattle.unit_list.specs.Counts.{AreGreatest, IsGreatest, IsUnit, total_of_counts}
-use Rattle.frac128.specs.Sign.{magnitude}
-use Rattle.unit_list.specs.Splits.{counts_of, part_of}
-use Rattle.unit_list.proofs.Values.{HasValue, floor_value, minus_value, over_lowest, over_value, times_value}
-use Rattle.unit_list.proofs.Values.{whole_lowest}
+use Rattle.frac128.specs.Exact.{exact_fraction_difference, exact_fraction_product, exact_fraction_sum}
+use Rattle.unit_list.specs.Counts.{AreGreatestUnitCounts, IsGreatestUnitCount, IsUnitNumber, total_of_unit_counts}
+use Rattle.frac128.specs.Sign.{fraction_magnitude}
+use Rattle.unit_list.specs.Splits.{counts_of_units, part_by_unit}
+use Rattle.unit_list.proofs.Values.{HasValue, unit_difference_value, unit_floor_value, unit_multiple_value}
+use Rattle.unit_list.proofs.Values.{unit_quotient_is_lowest, unit_quotient_value, whole_count_is_lowest}
 
 -- the value with which a step that succeeds continues
 pub record Goes {A B : Type 0} (first : Result A FracFault) (step : A → Result B FracFault) (answer : B) : Type 0 where
@@ -27,15 +27,16 @@ pub record Goes {A B : Type 0} (first : Result A FracFault) (step : A → Result
   pub step_is : step value ≡ Ok answer
 
 -- if a step succeeds, its first part does
-pub first_part_succeeds : {A B : Type 0} (first : Result A FracFault) (step : A → Result B FracFault) (answer : B)
+pub split_step_first_succeeds : {A B : Type 0} (first : Result A FracFault) (step : A → Result B FracFault) (answer : B)
     → (first >>= step) ≡ Ok answer
     → Goes first step answer
-first_part_succeeds (Ok x) step answer h = record { value = x; first_is = refl; step_is = h }
-first_part_succeeds (Err fault) step answer h = absurd (cc)
+split_step_first_succeeds (Ok x) step answer h = record { value = x; first_is = refl; step_is = h }
+split_step_first_succeeds (Err fault) step answer h = absurd (cc)
 
 -- two results of the same step are equal
-pub ok_same : {A : Type 0} (result : Result A FracFault) (x y : A) → result ≡ Ok x → result ≡ Ok y → x ≡ y
-ok_same result x y p q = cc
+pub split_step_results_are_equal : {A : Type 0} (result : Result A FracFault) (x y : A) → result ≡ Ok x → result ≡ Ok y
+    → x ≡ y
+split_step_results_are_equal result x y p q = cc
 
 -- the numerator of a unit is a natural number above 0
 pub record HasNatural (unit : Fraction) : Type 0 where
@@ -44,8 +45,8 @@ pub record HasNatural (unit : Fraction) : Type 0 where
   pub some : 0 < num
 
 -- the numerator of a unit is a natural number above 0
-pub unit_natural : (unit : Fraction) → IsUnit unit → HasNatural unit
-unit_natural unit is = by_num unit.num refl is.unit_positive
+pub unit_number_is_natural : (unit : Fraction) → IsUnitNumber unit → HasNatural unit
+unit_number_is_natural unit is = by_num unit.num refl is.unit_positive
   where
     by_num : (z : ℤ) → unit.num ≡ z → pos 0 <ℤ z → HasNatural unit
     by_num (pos n) e some = record { num = n; num_is = e; some = omega (arith, ints) }
@@ -54,25 +55,28 @@ unit_natural unit is = by_num unit.num refl is.unit_positive
 -- the part of a / b by a unit c / d: a whole count and a remainder
 pub record IsPart (a b c d : ℕ) (part : Part) : Type 0 where
   pub count : ℕ
-  pub count_is : part.count ≡ whole (pos count)
+  pub count_is : part.count ≡ whole_fraction (pos count)
   pub left : ℕ
   pub left_is : left + count * c * b ≡ a * d
   pub next : a * d < (count + 1) * c * b
   pub rest : HasValue part.rest left (b * d)
 
 -- the part of a number by a unit has the greatest count and the remainder that this count leaves
-pub part_is : ReducedLaw → LcmLaw → (x unit : Fraction) (a b c : ℕ) (part : Part) → HasValue x a b → 0 < b
+pub part_by_unit_is_greatest : ReducedFractionLaw → LcmLaw → (x unit : Fraction) (a b c : ℕ) (part : Part)
+    → HasValue x a b → 0 < b
     → unit.num ≡ pos c
     → 0 < c → 0 < unit.den
-    → part_of x unit ≡ Ok part → IsPart a b c unit.den part
-part_is law multiples x unit a b c part is some_b c_is some_c some_d h =
-    let quotient = first_part_succeeds (fraction_quotient x unit) _ part h in
-    let taken = first_part_succeeds (fraction_product (floor_of quotient.value) unit) _ part quotient.step_is in
-    let rest = first_part_succeeds (minus x taken.value) _ part taken.step_is in
-    let q = over_value law x unit quotient.value a b c is c_is some_d some_c some_b quotient.first_is in
+    → part_by_unit x unit ≡ Ok part → IsPart a b c unit.den part
+part_by_unit_is_greatest law multiples x unit a b c part is some_b c_is some_c some_d h =
+    let quotient = split_step_first_succeeds (fraction_quotient x unit) _ part h in
+    let taken = split_step_first_succeeds (fraction_product (fraction_floor quotient.value) unit) _ part
+    quotient.step_is in
+    let rest = split_step_first_succeeds (fraction_difference x taken.value) _ part taken.step_is in
+    let q = unit_quotient_value law x unit quotient.value a b c is c_is some_d some_c some_b quotient.first_is in
     let k = q.num / quotient.value.den in
-    let floor_is : floor_of quotient.value ≡ whole (pos k) = floor_value quotient.value q.num q.num_is in
-    let t = times_value law k c unit taken.value c_is some_d
+    let floor_is : fraction_floor quotient.value ≡ whole_fraction (pos k) =
+    unit_floor_value quotient.value q.num q.num_is in
+    let t = unit_multiple_value law k c unit taken.value c_is some_d
     (ap (λ n. fraction_product n unit) (sym floor_is) ∙ taken.first_is) in
     let some_bc : 0 < b * c = mul-pos some_b some_c in
     let low : k * c * b ≤ a * unit.den = at_most q.num quotient.value.den unit.den q.positive some_bc q.same in
@@ -81,13 +85,13 @@ part_is law multiples x unit a b c part is some_b c_is some_c some_d h =
     let left_is : (a * unit.den - k * c * b) + k * c * b ≡ a * unit.den = together (a * unit.den) (k * c * b) low in
     record {
       count = k;
-      count_is = sym (ap (λ p. p.count) (ok_same _ _ _ refl rest.step_is)) ∙ floor_is;
+      count_is = sym (ap (λ p. p.count) (split_step_results_are_equal _ _ _ refl rest.step_is)) ∙ floor_is;
       left = a * unit.den - k * c * b;
       left_is = left_is;
       next = high;
       rest = subst (λ y. HasValue y (a * unit.den - k * c * b) (b * unit.den))
-          (ap (λ p. p.rest) (ok_same _ _ _ refl rest.step_is))
-          (minus_value law multiples x taken.value rest.value a b
+          (ap (λ p. p.rest) (split_step_results_are_equal _ _ _ refl rest.step_is))
+          (unit_difference_value law multiples x taken.value rest.value a b
           (k * c) unit.den _ is t some_b some_d left_is rest.first_is);
     }
   where
@@ -121,10 +125,11 @@ part_is law multiples x unit a b c part is some_b c_is some_c some_d h =
         turn q e = omega arith
 
 -- the sum of a whole multiple of a unit and a remainder has the value of the number
-sum_value : (count c left b : ℕ) (unit rest : Fraction) (a : ℕ) → unit.num ≡ pos c → 0 < unit.den
+part_sum_value : (count c left b : ℕ) (unit rest : Fraction) (a : ℕ) → unit.num ≡ pos c → 0 < unit.den
     → HasValue rest left (b * unit.den)
-    → left + count * c * b ≡ a * unit.den → HasValue (sum (product (whole (pos count)) unit) rest) a b
-sum_value count c left b unit rest a c_is some_d is left_is = record {
+    → left + count * c * b ≡ a * unit.den
+    → HasValue (exact_fraction_sum (exact_fraction_product (whole_fraction (pos count)) unit) rest) a b
+part_sum_value count c left b unit rest a c_is some_d is left_is = record {
   num = count * c * rest.den + is.num * (1 * unit.den);
   num_is = ap (λ z. (pos count *ℤ z) *ℤ pos rest.den +ℤ rest.num *ℤ pos (1 * unit.den)) c_is
       ∙ ap (λ z. pos (count * c * rest.den) +ℤ z *ℤ pos (1 * unit.den)) is.num_is;
@@ -146,10 +151,11 @@ sum_value count c left b unit rest a c_is some_d is left_is = record {
     turn e d = omega arith
 
 -- the count of a part is the greatest one in each fraction with that value
-greatest_part : (y unit count : Fraction) (a b c k : ℕ) → HasValue y a b → 0 < b → unit.num ≡ pos c → 0 < unit.den
-    → count ≡ whole (pos k)
-    → k * c * b ≤ a * unit.den → a * unit.den < (k + 1) * c * b → IsGreatest y unit count
-greatest_part y unit count a b c k is some_b c_is some_d count_is low high =
+unit_count_of_part_is_greatest : (y unit count : Fraction) (a b c k : ℕ) → HasValue y a b → 0 < b → unit.num ≡ pos c
+    → 0 < unit.den
+    → count ≡ whole_fraction (pos k)
+    → k * c * b ≤ a * unit.den → a * unit.den < (k + 1) * c * b → IsGreatestUnitCount y unit count
+unit_count_of_part_is_greatest y unit count a b c k is some_b c_is some_d count_is low high =
     rw count_is (record {
       is_whole = refl;
       is_at_most = rw (c_is, is.num_is) (natural_at_most _ _ (at_most is.num y.den is.same));
@@ -195,10 +201,12 @@ greatest_part y unit count a b c k is some_b c_is some_d count_is low high =
         turn_on e d = omega arith
 
 -- each fraction with that value has the same remainder
-pub difference_value : (y unit count : Fraction) (a b c k left : ℕ) → HasValue y a b → unit.num ≡ pos c → 0 < unit.den
-    → count ≡ whole (pos k)
-    → left + k * c * b ≡ a * unit.den → 0 < b → HasValue (difference y (product count unit)) left (b * unit.den)
-difference_value y unit count a b c k left is c_is some_d count_is left_is some_b =
+pub part_remainder_value : (y unit count : Fraction) (a b c k left : ℕ) → HasValue y a b → unit.num ≡ pos c
+    → 0 < unit.den
+    → count ≡ whole_fraction (pos k)
+    → left + k * c * b ≡ a * unit.den → 0 < b
+    → HasValue (exact_fraction_difference y (exact_fraction_product count unit)) left (b * unit.den)
+part_remainder_value y unit count a b c k left is c_is some_d count_is left_is some_b =
     let low : k * c * y.den ≤ is.num * (1 * unit.den) = at_most is.num y.den is.same in
     rw count_is (record {
       num = is.num * (1 * unit.den) - k * c * y.den;
@@ -239,9 +247,9 @@ difference_value y unit count a b c k left is c_is some_d count_is left_is some_
 
     settled : (n e d m : ℕ) → n * b ≡ a * e → m + k * c * e ≡ n * (1 * d) → left + k * c * b ≡ a * d
         → m * (b * d) ≡ left * (e * (1 * d))
-    settled n e d m same whole parts =
+    settled n e d m same whole_fraction parts =
         let first : m * (b * d) + k * c * e * (b * d) ≡ a * d * (e * d) =
-        gather m e d ∙ ap (λ z. z * (b * d)) whole ∙ turn n d ∙ ap (λ z. z * (d * d)) same ∙ turn_on e d in
+        gather m e d ∙ ap (λ z. z * (b * d)) whole_fraction ∙ turn n d ∙ ap (λ z. z * (d * d)) same ∙ turn_on e d in
         let second : a * d * (e * d) ≡ left * (e * (1 * d)) + k * c * e * (b * d) = ap (λ z. z * (e * d)) (sym parts)
         ∙ split e d in
         same_sum _ _ _ (first ∙ second)
@@ -264,25 +272,27 @@ difference_value y unit count a b c k left is c_is some_d count_is left_is some_
 -- the counts of the value a / b
 pub record AreCounts (a b : ℕ) (units counts : List Fraction) : Type 0 where
   pub one_each : length counts ≡ length units
-  pub sum : HasValue (total_of_counts counts units) a b
-  pub greatest : (y : Fraction) → HasValue y a b → AreGreatest y units counts
-  pub plain : map magnitude counts ≡ counts
-  pub lowest : All IsReduced counts
+  pub sum : HasValue (total_of_unit_counts counts units) a b
+  pub greatest : (y : Fraction) → HasValue y a b → AreGreatestUnitCounts y units counts
+  pub plain : map fraction_magnitude counts ≡ counts
+  pub lowest : All IsReducedFraction counts
 
 -- the counts of a number by some units have the properties that the definition requires
-pub counts_are : ReducedLaw → LcmLaw → (units counts : List Fraction) (x : Fraction) (a b : ℕ) → HasValue x a b → 0 < b
-    → All IsUnit units → 0 < length units
-    → counts_of x units ≡ Ok counts → AreCounts a b units counts
-unfolding counts_of
-counts_are law multiples [] counts x a b is some_b units_are some h = absurd (omega arith)
-counts_are law multiples (unit ∷ []) counts x a b is some_b units_are some h =
-    let unit_is : IsUnit unit = All-head IsUnit unit [] units_are in
-    let natural = unit_natural unit unit_is in
-    let quotient = first_part_succeeds (fraction_quotient x unit) _ counts h in
+pub counts_of_units_are : ReducedFractionLaw → LcmLaw → (units counts : List Fraction) (x : Fraction) (a b : ℕ)
+    → HasValue x a b → 0 < b
+    → All IsUnitNumber units → 0 < length units
+    → counts_of_units x units ≡ Ok counts → AreCounts a b units counts
+unfolding counts_of_units
+counts_of_units_are law multiples [] counts x a b is some_b units_are some h = absurd (omega arith)
+counts_of_units_are law multiples (unit ∷ []) counts x a b is some_b units_are some h =
+    let unit_is : IsUnitNumber unit = All-head IsUnitNumber unit [] units_are in
+    let natural = unit_number_is_natural unit unit_is in
+    let quotient = split_step_first_succeeds (fraction_quotient x unit) _ counts h in
     let q =
-    over_value law x unit quotient.value a b natural.num is natural.num_is unit_is.denominator natural.some some_b
+    unit_quotient_value law x unit quotient.value a b natural.num is natural.num_is unit_is.denominator natural.some
+    some_b
     quotient.first_is in
-    let counts_is : quotient.value ∷ [] ≡ counts = ok_same _ _ _ refl quotient.step_is in
+    let counts_is : quotient.value ∷ [] ≡ counts = split_step_results_are_equal _ _ _ refl quotient.step_is in
     subst (AreCounts a b (unit ∷ [])) counts_is (record {
       one_each = refl;
       sum = record {
@@ -294,9 +304,10 @@ counts_are law multiples (unit ∷ []) counts x a b is some_b units_are some h =
       };
       greatest = λ y value. tt;
       plain = ap (λ z. z ∷ []) (natural_plain quotient.value q.num q.num_is);
-      lowest = All-cons IsReduced quotient.value
-          [] (over_lowest law x unit quotient.value is.num natural.num is.num_is natural.num_is is.positive natural.some
-          quotient.first_is) (All-nil IsReduced);
+      lowest = All-cons IsReducedFraction quotient.value
+          [] (unit_quotient_is_lowest law x unit quotient.value is.num natural.num is.num_is natural.num_is is.positive
+          natural.some
+          quotient.first_is) (All-nil IsReducedFraction);
     })
   where
     spread : (n c e d : ℕ) → (n * c * 1 + 0 * (e * d)) * b ≡ n * (b * c)
@@ -305,41 +316,45 @@ counts_are law multiples (unit ∷ []) counts x a b is some_b units_are some h =
     turn : (d e : ℕ) → a * d * e ≡ a * (e * d * 1)
     turn d e = omega arith
 
-    natural_plain : (q : Fraction) (n : ℕ) → q.num ≡ pos n → magnitude q ≡ q
+    natural_plain : (q : Fraction) (n : ℕ) → q.num ≡ pos n → fraction_magnitude q ≡ q
     natural_plain q n is =
         ap (λ z. record { num = pos (unsigned_abs z); den = q.den }) is
         ∙ sym (ap (λ z. record { num = z; den = q.den }) is)
-counts_are law multiples (unit ∷ next ∷ units) counts x a b is some_b units_are some h =
-    let unit_is : IsUnit unit = All-head IsUnit unit (next ∷ units) units_are in
-    let natural = unit_natural unit unit_is in
-    let part = first_part_succeeds (part_of x unit) _ counts h in
-    let others = first_part_succeeds (counts_of part.value.rest (next ∷ units)) _ counts part.step_is in
+counts_of_units_are law multiples (unit ∷ next ∷ units) counts x a b is some_b units_are some h =
+    let unit_is : IsUnitNumber unit = All-head IsUnitNumber unit (next ∷ units) units_are in
+    let natural = unit_number_is_natural unit unit_is in
+    let part = split_step_first_succeeds (part_by_unit x unit) _ counts h in
+    let others = split_step_first_succeeds (counts_of_units part.value.rest (next ∷ units)) _ counts part.step_is in
     let taken =
-    part_is law multiples x unit a b natural.num part.value is some_b natural.num_is natural.some unit_is.denominator
+    part_by_unit_is_greatest law multiples x unit a b natural.num part.value is some_b natural.num_is natural.some
+    unit_is.denominator
     part.first_is in
     let some_bd : 0 < b * unit.den = mul-pos some_b unit_is.denominator in
-    let rest = counts_are law multiples (next ∷ units) others.value part.value.rest taken.left
+    let rest = counts_of_units_are law multiples (next ∷ units) others.value part.value.rest taken.left
     (b * unit.den) taken.rest some_bd
-    (All-tail IsUnit unit (next ∷ units) units_are) (omega arith) others.first_is in
-    let counts_is : part.value.count ∷ others.value ≡ counts = ok_same _ _ _ refl others.step_is in
+    (All-tail IsUnitNumber unit (next ∷ units) units_are) (omega arith) others.first_is in
+    let counts_is : part.value.count ∷ others.value ≡ counts = split_step_results_are_equal _ _ _ refl others.step_is in
     let low : taken.count * natural.num * b ≤ a * unit.den = smaller _ _ _ taken.left_is in
     subst (AreCounts a b (unit ∷ next ∷ units)) counts_is (record {
       one_each = ap suc rest.one_each;
-      sum = subst (λ z. HasValue (sum (product z unit) (total_of_counts others.value (next ∷ units))) a b)
+      sum = subst (λ z. HasValue
+          (exact_fraction_sum (exact_fraction_product z unit) (total_of_unit_counts others.value (next ∷ units))) a b)
           (sym taken.count_is)
-          (sum_value taken.count natural.num taken.left b unit
-          (total_of_counts others.value (next ∷ units)) a natural.num_is unit_is.denominator rest.sum taken.left_is);
+          (part_sum_value taken.count natural.num taken.left b unit
+          (total_of_unit_counts others.value (next ∷ units)) a natural.num_is unit_is.denominator rest.sum
+          taken.left_is);
       greatest = λ y value. (
-        greatest_part y unit part.value.count a b natural.num taken.count value some_b natural.num_is
+        unit_count_of_part_is_greatest y unit part.value.count a b natural.num taken.count value some_b natural.num_is
             unit_is.denominator taken.count_is low taken.next,
-        rest.greatest (difference y (product part.value.count unit))
-            (difference_value y unit part.value.count a b natural.num taken.count taken.left value natural.num_is
+        rest.greatest (exact_fraction_difference y (exact_fraction_product part.value.count unit))
+            (part_remainder_value y unit part.value.count a b natural.num taken.count taken.left value natural.num_is
             unit_is.denominator taken.count_is taken.left_is some_b),
       );
-      plain = ap (λ z. z ∷ map magnitude others.value) (ap magnitude taken.count_is ∙ sym taken.count_is)
+      plain = ap (λ z. z ∷ map fraction_magnitude others.value)
+          (ap fraction_magnitude taken.count_is ∙ sym taken.count_is)
           ∙ ap (λ xs. part.value.count ∷ xs) rest.plain;
-      lowest = All-cons IsReduced part.value.count others.value
-          (subst IsReduced (sym taken.count_is) (whole_lowest (pos taken.count))) rest.lowest;
+      lowest = All-cons IsReducedFraction part.value.count others.value
+          (subst IsReducedFraction (sym taken.count_is) (whole_count_is_lowest (pos taken.count))) rest.lowest;
     })
   where
     smaller : (l m n : ℕ) → l + m ≡ n → m ≤ n

@@ -10,10 +10,11 @@ use Prim.Native.Nat.{◌∣◌}
 use Rattle.frac128.specs.declared.fault.FracFault.TheVariants.{Overflow}
 use Rattle.std.specs.Int.{int_div_euclid}
 use Rattle.frac128.specs.Divisors.{LcmLaw, gcd, lcm}
-use Rattle.frac128.specs.Floor.{floor_of}
-use Rattle.frac128.specs.Fraction.{Fraction, IsReduced, fits_most, whole}
-use Rattle.frac128.specs.Steps.{ReducedLaw, fraction_product, fraction_quotient, lowest_terms, ratio}
-use Rattle.frac128.specs.Sums.{in_range, step_over, minus, numerator_over, sum_over}
+use Rattle.frac128.specs.Floor.{fraction_floor}
+use Rattle.frac128.specs.Fraction.{Fraction, IsReducedFraction, fraction_fits, whole_fraction}
+use Rattle.frac128.specs.Steps.{ReducedFractionLaw, fraction_product, fraction_quotient, lowest_terms, ratio}
+use Rattle.frac128.specs.Sums.{in_numerator_range, fraction_step_over, fraction_difference, fraction_sum_over}
+use Rattle.frac128.specs.Sums.{numerator_over}
 
 -- x has the value a / b
 pub record HasValue (x : Fraction) (a b : ℕ) : Type 0 where
@@ -23,73 +24,83 @@ pub record HasValue (x : Fraction) (a b : ℕ) : Type 0 where
   pub same : num * b ≡ a * x.den
 
 -- if a test succeeds with a value, it is that value
-if_ok : {A : Type 0} (b : Bool) (x y : A) → (if b then Ok x else Err Overflow) ≡ Ok y → y ≡ x
-if_ok true x y h = cc
-if_ok false x y h = absurd (cc)
+split_value_if_ok : {A : Type 0} (b : Bool) (x y : A) → (if b then Ok x else Err Overflow) ≡ Ok y → y ≡ x
+split_value_if_ok true x y h = cc
+split_value_if_ok false x y h = absurd (cc)
 
 -- a ratio that succeeds is in lowest terms
-ratio_ok : (n : ℤ) (d : ℕ) (y : Fraction) → 0 < d → ratio n (pos d) ≡ Ok y → y ≡ lowest_terms n d
-ratio_ok n zero y some h = absurd (omega arith)
-ratio_ok n (suc d) y some h = if_ok (fits_most (lowest_terms n (suc d))) (lowest_terms n (suc d)) y h
+unit_ratio_ok : (n : ℤ) (d : ℕ) (y : Fraction) → 0 < d → ratio n (pos d) ≡ Ok y → y ≡ lowest_terms n d
+unit_ratio_ok n zero y some h = absurd (omega arith)
+unit_ratio_ok n (suc d) y some h = split_value_if_ok (fraction_fits (lowest_terms n (suc d))) (lowest_terms n (suc d)) y
+    h
 
 -- a sum or difference that succeeds is in lowest terms
-joined_ok : (step : ℤ → ℤ → ℤ) (m : ℕ) (l r : ℤ) (y : Fraction) → step_over step m l r ≡ Ok y
+split_sum_ok : (step : ℤ → ℤ → ℤ) (m : ℕ) (l r : ℤ) (y : Fraction) → fraction_step_over step m l r ≡ Ok y
     → y ≡ lowest_terms (step l r) m
-joined_ok step m l r y h = by_tests (in_range (pos m)) (in_range l) (in_range r) h
+split_sum_ok step m l r y h = by_tests (in_numerator_range (pos m)) (in_numerator_range l) (in_numerator_range r) h
   where
-    by_tests : (a b c : Bool) → (if a && b && c then sum_over m (step l r) else Err Overflow) ≡ Ok y
+    by_tests : (a b c : Bool) → (if a && b && c then fraction_sum_over m (step l r) else Err Overflow) ≡ Ok y
         → y ≡ lowest_terms (step l r) m
-    by_tests true true true h = if_ok (in_range (step l r)) (lowest_terms (step l r) m) y h
+    by_tests true true true h = split_value_if_ok (in_numerator_range (step l r)) (lowest_terms (step l r) m) y h
     by_tests true true false h = absurd (cc)
     by_tests true false c h = absurd (cc)
     by_tests false b c h = absurd (cc)
 
 -- natural numbers that are equal as integers are equal
-pub pos_same : (m n : ℕ) → pos m ≡ pos n → m ≡ n
-pos_same m n h = cc
+pub unit_count_pos_is_injective : (m n : ℕ) → pos m ≡ pos n → m ≡ n
+unit_count_pos_is_injective m n h = cc
 
 -- a quotient in lowest terms has its value
-reduced_value : ReducedLaw → (a d : ℕ) → 0 < d → HasValue (lowest_terms (pos a) d) a d
+reduced_unit_value : ReducedFractionLaw → (a d : ℕ) → 0 < d → HasValue (lowest_terms (pos a) d) a d
 unfolding lowest_terms
-reduced_value law a d some =
+reduced_unit_value law a d some =
     let facts = law (pos a) d some in
-    record { num = a / gcd a d; num_is = refl; positive = facts.0.den_positive; same = pos_same _ _ facts.1 }
+    record {
+      num = a / gcd a d;
+      num_is = refl;
+      positive = facts.0.den_positive;
+      same =
+          unit_count_pos_is_injective _ _ facts.1;
+    }
 
 -- x has the value of its own numerator and denominator
-pub own_value : (x : Fraction) (n : ℕ) → x.num ≡ pos n → 0 < x.den → HasValue x n x.den
-own_value x n is some = record { num = n; num_is = is; positive = some; same = refl }
+pub unit_own_value : (x : Fraction) (n : ℕ) → x.num ≡ pos n → 0 < x.den → HasValue x n x.den
+unit_own_value x n is some = record { num = n; num_is = is; positive = some; same = refl }
 
 -- the quotient of two fractions with natural numerators, in lowest terms
-pub over_reduced : (x unit q : Fraction) (n c : ℕ) → x.num ≡ pos n → unit.num ≡ pos c → 0 < x.den → 0 < c
+pub unit_quotient_is_reduced : (x unit q : Fraction) (n c : ℕ) → x.num ≡ pos n → unit.num ≡ pos c → 0 < x.den → 0 < c
     → fraction_quotient x unit ≡ Ok q
     → q ≡ lowest_terms (pos (n * unit.den)) (x.den * c)
-over_reduced x unit q n c n_is c_is some_x some_c h =
+unit_quotient_is_reduced x unit q n c n_is c_is some_x some_c h =
     let ratio_is : fraction_quotient x unit ≡ ratio (pos (n * unit.den)) (pos (x.den * c)) =
     ap (λ z. ratio (z *ℤ pos unit.den) (pos x.den *ℤ unit.num)) n_is
     ∙ ap (λ z. ratio (pos n *ℤ pos unit.den) (pos x.den *ℤ z)) c_is in
-    ratio_ok (pos (n * unit.den)) (x.den * c) q (mul-pos some_x some_c) (sym ratio_is ∙ h)
+    unit_ratio_ok (pos (n * unit.den)) (x.den * c) q (mul-pos some_x some_c) (sym ratio_is ∙ h)
 
 -- the quotient is in lowest terms
-pub over_lowest : ReducedLaw → (x unit q : Fraction) (n c : ℕ) → x.num ≡ pos n → unit.num ≡ pos c → 0 < x.den → 0 < c
-    → fraction_quotient x unit ≡ Ok q → IsReduced q
-over_lowest law x unit q n c n_is c_is some_x some_c h =
-    subst IsReduced (sym (over_reduced x unit q n c n_is c_is some_x some_c h))
+pub unit_quotient_is_lowest : ReducedFractionLaw → (x unit q : Fraction) (n c : ℕ) → x.num ≡ pos n → unit.num ≡ pos c
+    → 0 < x.den → 0 < c
+    → fraction_quotient x unit ≡ Ok q → IsReducedFraction q
+unit_quotient_is_lowest law x unit q n c n_is c_is some_x some_c h =
+    subst IsReducedFraction (sym (unit_quotient_is_reduced x unit q n c n_is c_is some_x some_c h))
     (law (pos (n * unit.den)) (x.den * c) (mul-pos some_x some_c)).0
 
 -- a whole number is in lowest terms
-pub whole_lowest : (n : ℤ) → IsReduced (whole n)
-whole_lowest n = record { den_positive = omega arith; coprime = (one-dvd (unsigned_abs n), dvd_refl 1, λ d p q. q) }
+pub whole_count_is_lowest : (n : ℤ) → IsReducedFraction (whole_fraction n)
+whole_count_is_lowest n =
+    record { den_positive = omega arith; coprime = (one-dvd (unsigned_abs n), dvd_refl 1, λ d p q. q) }
 
 -- the value of a quotient
-pub over_value : ReducedLaw → (x unit q : Fraction) (a b c : ℕ) → HasValue x a b → unit.num ≡ pos c → 0 < unit.den
+pub unit_quotient_value : ReducedFractionLaw → (x unit q : Fraction) (a b c : ℕ) → HasValue x a b → unit.num ≡ pos c
+    → 0 < unit.den
     → 0 < c → 0 < b
     → fraction_quotient x unit ≡ Ok q → HasValue q (a * unit.den) (b * c)
-over_value law x unit q a b c is c_is some_d some_c some_b h =
+unit_quotient_value law x unit q a b c is c_is some_d some_c some_b h =
     let some : 0 < x.den * c = mul-pos is.positive some_c in
-    let q_is = over_reduced x unit q is.num c is.num_is c_is is.positive some_c h in
+    let q_is = unit_quotient_is_reduced x unit q is.num c is.num_is c_is is.positive some_c h in
     let raw : HasValue q (is.num * unit.den) (x.den * c) =
     subst (λ y. HasValue y (is.num * unit.den) (x.den * c)) (sym q_is)
-    (reduced_value law (is.num * unit.den) (x.den * c) some) in
+    (reduced_unit_value law (is.num * unit.den) (x.den * c) some) in
     record {
       num = raw.num;
       num_is = raw.num_is;
@@ -111,23 +122,23 @@ over_value law x unit q a b c is c_is some_d some_c some_b h =
         third k d e = omega arith
 
 -- the value of a whole multiple of a unit
-pub times_value : ReducedLaw → (k c : ℕ) (unit t : Fraction) → unit.num ≡ pos c → 0 < unit.den
-    → fraction_product (whole (pos k)) unit ≡ Ok t
+pub unit_multiple_value : ReducedFractionLaw → (k c : ℕ) (unit t : Fraction) → unit.num ≡ pos c → 0 < unit.den
+    → fraction_product (whole_fraction (pos k)) unit ≡ Ok t
     → HasValue t (k * c) unit.den
-times_value law k c unit t c_is some h =
-    let ratio_is : fraction_product (whole (pos k)) unit ≡ ratio (pos (k * c)) (pos (1 * unit.den)) =
+unit_multiple_value law k c unit t c_is some h =
+    let ratio_is : fraction_product (whole_fraction (pos k)) unit ≡ ratio (pos (k * c)) (pos (1 * unit.den)) =
     ap (λ z. ratio (pos k *ℤ z) (pos (1 * unit.den))) c_is in
     let once : 1 * unit.den ≡ unit.den = one_times unit.den in
     let t_is : t ≡ lowest_terms (pos (k * c)) unit.den =
-    ratio_ok (pos (k * c)) unit.den t some (ap (λ d. ratio (pos (k * c)) (pos d)) (sym once) ∙ sym ratio_is ∙ h) in
-    subst (λ y. HasValue y (k * c) unit.den) (sym t_is) (reduced_value law (k * c) unit.den some)
+    unit_ratio_ok (pos (k * c)) unit.den t some (ap (λ d. ratio (pos (k * c)) (pos d)) (sym once) ∙ sym ratio_is ∙ h) in
+    subst (λ y. HasValue y (k * c) unit.den) (sym t_is) (reduced_unit_value law (k * c) unit.den some)
   where
     one_times : (d : ℕ) → 1 * d ≡ d
     one_times d = omega arith
 
 -- the whole part of a value
-pub floor_value : (q : Fraction) (n : ℕ) → q.num ≡ pos n → floor_of q ≡ whole (pos (n / q.den))
-floor_value q n is = ap (λ z. whole (int_div_euclid z (pos q.den))) is
+pub unit_floor_value : (q : Fraction) (n : ℕ) → q.num ≡ pos n → fraction_floor q ≡ whole_fraction (pos (n / q.den))
+unit_floor_value q n is = ap (λ z. whole_fraction (int_div_euclid z (pos q.den))) is
 
 -- a common multiple of two denominators
 record IsMultiple (b e m : ℕ) : Type 0 where
@@ -136,8 +147,8 @@ record IsMultiple (b e m : ℕ) : Type 0 where
   some : 0 < m
 
 -- the least common multiple is a multiple of both numbers, by factors above 0
-lcm_multiple : LcmLaw → (b e : ℕ) → 0 < b → 0 < e → IsMultiple b e (lcm b e)
-lcm_multiple law b e some_b some_e =
+unit_lcm_multiple : LcmLaw → (b e : ℕ) → 0 < b → 0 < e → IsMultiple b e (lcm b e)
+unit_lcm_multiple law b e some_b some_e =
     let is = law b e some_e in
     record {
       first = mul-div_cancel' b is.first_divides;
@@ -153,12 +164,13 @@ lcm_multiple law b e some_b some_e =
     above (suc m) h = omega arith
 
 -- the value of a difference that is not below 0
-pub minus_value : ReducedLaw → LcmLaw → (x t r : Fraction) (a b p e left : ℕ) → HasValue x a b → HasValue t p e → 0 < b
+pub unit_difference_value : ReducedFractionLaw → LcmLaw → (x t r : Fraction) (a b p e left : ℕ) → HasValue x a b
+    → HasValue t p e → 0 < b
     → 0 < e
-    → left + p * b ≡ a * e → minus x t ≡ Ok r → HasValue r left (b * e)
-minus_value law multiples x t r a b p e left is_x is_t some_b some_e left_is h =
+    → left + p * b ≡ a * e → fraction_difference x t ≡ Ok r → HasValue r left (b * e)
+unit_difference_value law multiples x t r a b p e left is_x is_t some_b some_e left_is h =
     let m = lcm x.den t.den in
-    let is = lcm_multiple multiples x.den t.den is_x.positive is_t.positive in
+    let is = unit_lcm_multiple multiples x.den t.den is_x.positive is_t.positive in
     let f = m / x.den in
     let g = m / t.den in
     let under : is_t.num * g ≤ is_x.num * f =
@@ -168,10 +180,10 @@ minus_value law multiples x t r a b p e left is_x is_t some_b some_e left_is h =
     ap (λ z. z *ℤ pos f -ℤ t.num *ℤ pos g) is_x.num_is ∙ ap (λ z. pos is_x.num *ℤ pos f -ℤ z *ℤ pos g) is_t.num_is
     ∙ natural (is_x.num * f) (is_t.num * g) under in
     let r_is : r ≡ lowest_terms (pos (is_x.num * f - is_t.num * g)) m =
-    joined_ok ◌-ℤ◌ m (numerator_over x m) (numerator_over t m) r h ∙ ap (λ z. lowest_terms z m) step_is in
+    split_sum_ok ◌-ℤ◌ m (numerator_over x m) (numerator_over t m) r h ∙ ap (λ z. lowest_terms z m) step_is in
     let raw : HasValue r (is_x.num * f - is_t.num * g) m =
     subst (λ y. HasValue y (is_x.num * f - is_t.num * g) m) (sym r_is)
-    (reduced_value law (is_x.num * f - is_t.num * g) m is.some) in
+    (reduced_unit_value law (is_x.num * f - is_t.num * g) m is.some) in
     let whole_is : (is_x.num * f - is_t.num * g) + is_t.num * g ≡ is_x.num * f =
     together (is_x.num * f) (is_t.num * g) under in
     record {

@@ -1,13 +1,13 @@
 //! Laws of the definitions that the contracts cite.
 
-ghost use Rattle.unit_list.specs.Counts.{SplitLaw, UniqueLaw};
+ghost use Rattle.unit_list.specs.Counts.{UniqueSplitLaw, UnitSplitLaw};
 
 use frac128::{lcm_law, reduced_law};
 
 /// The counts of units add up to the number that was split and have its sign. Each count but the last is the greatest
 /// whole number that leaves a remainder of at least 0.
 pub fn split_law()
-    ensures { SplitLaw }
+    ensures { UnitSplitLaw }
 {
     lcm_law();
     reduced_law();
@@ -15,7 +15,7 @@ pub fn split_law()
 
 /// The counts of a split are the only ones with these properties.
 pub fn unique_law()
-    ensures { UniqueLaw }
+    ensures { UniqueSplitLaw }
 {
     reduced_law();
 }

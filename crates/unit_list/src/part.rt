@@ -14,7 +14,7 @@ pub(crate) struct Part {
 
 // Returns the greatest whole count of the unit in x, and the remainder of x.
 pub(crate) fn part_of(x: &Frac, unit: &Frac) -> Result<Part, FracFault>
-    ensures { result ≡ spec.part_of x.now unit.now }
+    ensures { result ≡ spec.part_by_unit x.now unit.now }
 {
     let count = x.div(unit)?.floor();
     let taken = count.mul(unit)?;

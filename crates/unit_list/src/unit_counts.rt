@@ -1,8 +1,9 @@
 //! Splitting a quantity into counts of units.
 
 ghost use Rattle.std.specs.Prelude.{◌≡◌, ◌<◌, length, All, IfOk, OnOk};
-ghost use Rattle.unit_list.specs.Amounts.{AreGiven, HasDenominator, IsSplit, counts_in, numbers_of};
-ghost use Rattle.unit_list.specs.Counts.{IsSplitOf};
+ghost use Rattle.unit_list.specs.Amounts.{AreGivenCounts, HasUnitDenominator, IsSplit, numbers_of_units};
+ghost use Rattle.unit_list.specs.Amounts.{unit_counts_in};
+ghost use Rattle.unit_list.specs.Counts.{IsSplitIntoUnits};
 ghost use Rattle.unit_list.specs.Splits as spec;
 
 use crate::counts::{Fracs, Split};
@@ -29,8 +30,9 @@ pub fn split(
     round: bool,
 ) -> Result<Split, SplitFault>
     requires { 0 < length units.now }
-    ensures computed { IsSplit result (counts_in round q.now units.now) }
-    ensures counted { IfOk result (λ split. IsSplitOf round q.now.value (numbers_of units.now) split.counts) }
+    ensures computed { IsSplit result (unit_counts_in round q.now units.now) }
+    ensures counted { IfOk result
+        (λ split. IsSplitIntoUnits round q.now.value (numbers_of_units units.now) split.counts) }
 {
     if let Some(fault) = unit_fault(q, units) {
         return Err(fault);
@@ -51,8 +53,9 @@ fn counts_of(
     units: &[Quantity],
 ) -> Result<Fracs, SplitFault>
     requires { 0 < length units.now }
-    ensures counts { AreGiven result (spec.signed_counts negative (spec.counts_of amount.now (numbers_of units.now))) }
-    ensures denominators { OnOk result (All HasDenominator units.now) }
+    ensures counts { AreGivenCounts result
+        (spec.signed_unit_counts negative (spec.counts_of_units amount.now (numbers_of_units units.now))) }
+    ensures denominators { OnOk result (All HasUnitDenominator units.now) }
 {
     let last = units.len() - 1;
     let mut rest = *amount;

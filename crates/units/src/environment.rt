@@ -55,7 +55,7 @@ pub fn collect_words<R: Env>(rt: &R, alloc: Global) -> Result<Texts, AllocError>
 
 // Returns the place of the first `=`.
 fn place_of_mark(entry: &[u8]) -> Option<usize>
-    ensures { result ≡ spec.place_of_mark entry.now }
+    ensures { result ≡ spec.process_entry_mark_place entry.now }
 {
     entry.iter().position(|b| *b == b'=')
 }
@@ -72,7 +72,7 @@ fn is_text(entry: &[u8]) -> bool
 
 // Appends a variable, unless its name has a value already.
 fn push_new(alloc: Global, vars: &mut Vars, name: &[u8], value: &[u8]) -> Result<(), AllocError>
-    ensures ok { OnOk result (vars.new ≡ spec.with_new vars.old name.now value.now) }
+    ensures ok { OnOk result (vars.new ≡ spec.process_variables_with_new vars.old name.now value.now) }
     ensures err { OnErr result (vars.new ≡ vars.old) }
 {
     if vars.value(name).is_some() {
@@ -86,7 +86,7 @@ fn push_new(alloc: Global, vars: &mut Vars, name: &[u8], value: &[u8]) -> Result
 /// Adds the variable of an entry `NAME=VALUE` that is UTF-8 and has a new name. Any other entry changes nothing. The
 /// only error is running out of memory, which changes nothing either.
 pub fn add_entry(alloc: Global, vars: &mut Vars, entry: &[u8]) -> Result<(), AllocError>
-    ensures ok { OnOk result (vars.new ≡ spec.with_entry vars.old entry.now) }
+    ensures ok { OnOk result (vars.new ≡ spec.process_variables_with_entry vars.old entry.now) }
     ensures err { OnErr result (vars.new ≡ vars.old) }
 {
     if !is_text(entry) {
@@ -100,7 +100,7 @@ pub fn add_entry(alloc: Global, vars: &mut Vars, entry: &[u8]) -> Result<(), All
 
 /// The variables of some entries.
 pub fn entries_law()
-    ensures { spec.EntryVariablesLaw }
+    ensures { spec.ProcessVariablesLaw }
 {}
 
 /// Returns the variables of the environment that are UTF-8; if several have one name, the first of them. The table has

@@ -4,8 +4,8 @@
 mod environment;
 
 ghost use Rattle.std.specs.Prelude.{◌≡◌, ◌<◌};
-ghost use Rattle.units_run.specs.Endings.{IsStated, MayEndBy};
-ghost use Rattle.units_run.specs.Laws.{HasItsStatus};
+ghost use Rattle.units_run.specs.Endings.{IsStatedRunEnd, RunMayEndBy};
+ghost use Rattle.units_run.specs.Laws.{HasRunStatus};
 
 use environment::{collect_vars, collect_words};
 use std::marker::Brand;
@@ -20,8 +20,8 @@ fn run_on<L: Ledger>(rt: HostRuntime, words: &Texts, vars: &Vars, blank: Blank) 
     requires name { blank.name ≡ L.name }
     requires parts { blank.parts ≡ L.parts }
     requires some { 0 < blank.parts }
-    ensures may { IsStated result → MayEndBy words.now result }
-    ensures status { HasItsStatus words.now vars.now result }
+    ensures may { IsStatedRunEnd result → RunMayEndBy words.now result }
+    ensures status { HasRunStatus words.now vars.now result }
 {
     status_law();
     let mut steps: Steps<L> = Steps::new(blank);

@@ -1,35 +1,36 @@
 -- Definitions that C passes in memory.
 use Rattle.std.specs.Prelude.{◌≡◌, ◌≢◌, [], ◌∷◌, ℕ, List, Option, Some, None, Result, Ok, Err}
-use Rattle.deck.specs.Decks.{Contents}
-use Rattle.deck.specs.FileLoads.{after_load}
+use Rattle.deck.specs.Decks.{DeckContents}
+use Rattle.deck.specs.FileLoads.{deck_after_loading}
 use Rattle.deck.specs.declared.fault.DeckFault.{DeckFault}
 use Rattle.deck.specs.declared.fault.DeckFault.TheVariants as fault
 use Rattle.deck.specs.declared.settings.Settings.{Settings}
-use Rattle.edited_table.specs.TableValue.{Edited, table_without_edits}
-use Rattle.units_c.specs.Statuses.{code}
+use Rattle.edited_table.specs.TableValue.{EditedTableView, edited_table_without_edits}
+use Rattle.units_c.specs.Statuses.{status_code}
 use Rattle.units_c.specs.declared.definitions.UnitsDefinitions.{UnitsDefinitions}
 use Rattle.units_c.specs.declared.definitions.UnitsEntry.{UnitsEntry}
 use Rattle.units_c.specs.declared.status.Status.{Status}
 use Rattle.units_c.specs.declared.status.Status.TheVariants as status
-use Rattle.units_io.specs.FileMap.{FileMap, no_files, with_file}
-use Rattle.units_io.specs.NamedValues.{Pairs, with_value}
+use Rattle.units_io.specs.FileMap.{FileMap, no_files_in_map, with_file}
+use Rattle.units_io.specs.NamedValues.{NamedTexts, with_named_text}
 
 -- files with those of a list added; the last file of a name counts
-abbrev pub with_files : FileMap → List UnitsEntry → FileMap
-with_files files [] = files
-with_files files (e ∷ es) = with_files (with_file files e.name.now e.content.now) es
+abbrev pub c_files_with_entries : FileMap → List UnitsEntry → FileMap
+c_files_with_entries files [] = files
+c_files_with_entries files (e ∷ es) = c_files_with_entries (with_file files e.name.now e.content.now) es
 
 -- variables with those of a list added; the last value of a name counts
-abbrev pub with_values : Pairs → List UnitsEntry → Pairs
-with_values pairs [] = pairs
-with_values pairs (e ∷ es) = with_values (with_value pairs e.name.now e.content.now) es
+abbrev pub c_variables_with_entries : NamedTexts → List UnitsEntry → NamedTexts
+c_variables_with_entries pairs [] = pairs
+c_variables_with_entries pairs (e ∷ es) = c_variables_with_entries (with_named_text pairs e.name.now e.content.now) es
 
-abbrev pub definition_settings : UnitsDefinitions → Settings
-definition_settings d = record { locale = d.locale.now; vars = with_values [] d.variables.now }
+abbrev pub c_definition_settings : UnitsDefinitions → Settings
+c_definition_settings d = record { locale = d.locale.now; vars = c_variables_with_entries [] d.variables.now }
 
 -- the deck of the main file and of the files that it includes
-abbrev pub deck_of_files : UnitsDefinitions → Result Contents DeckFault
-deck_of_files d = after_load (with_files no_files d.files.now) d.main.now (definition_settings d)
+abbrev pub c_deck_of_files : UnitsDefinitions → Result DeckContents DeckFault
+c_deck_of_files d = deck_after_loading (c_files_with_entries no_files_in_map d.files.now) d.main.now
+    (c_definition_settings d)
 
 -- the status of a load that failed with this fault
 abbrev pub load_status : DeckFault → Status
@@ -40,14 +41,15 @@ load_status fault.DeckFull = status.DeckFull
 load_status _ = status.NoMemory
 
 -- the table is open over these definitions, with no name settled and no edit made
-abbrev pub IsTableOpened : UnitsDefinitions → Option Edited → Type 0
-IsTableOpened d None = ⊥
-IsTableOpened d (Some e) = (deck_of_files d ≡ Ok e.table.deck) × (e ≡ table_without_edits e.table.deck)
+abbrev pub IsCTableOpened : UnitsDefinitions → Option EditedTableView → Type 0
+IsCTableOpened d None = ⊥
+IsCTableOpened d (Some e) = (c_deck_of_files d ≡ Ok e.table.deck) × (e ≡ edited_table_without_edits e.table.deck)
 
 -- the status of opening a closed table over a deck with this outcome: the status of the outcome, `NoMemory` or
 -- `ReadFailed`
-abbrev pub IsOpenStatus : Result Contents DeckFault → (result : ℕ) → Type 0
+abbrev pub IsOpenStatus : Result DeckContents DeckFault → (result : ℕ) → Type 0
 IsOpenStatus (Ok deck) result =
-    (result ≢ code status.NoMemory) → (result ≢ code status.ReadFailed) → result ≡ code status.Done
+    (result ≢ status_code status.NoMemory) → (result ≢ status_code status.ReadFailed) → result ≡ status_code status.Done
 IsOpenStatus (Err why) result =
-    (result ≢ code status.NoMemory) → (result ≢ code status.ReadFailed) → result ≡ code (load_status why)
+    (result ≢ status_code status.NoMemory) → (result ≢ status_code status.ReadFailed)
+    → result ≡ status_code (load_status why)

@@ -4,11 +4,11 @@ use Rattle.frac128.specs.Fraction.{Fraction}
 use Rattle.units_c.specs.declared.number.UnitsNumber.{UnitsNumber}
 
 -- the number with these high and low words
-abbrev pub joined_words : (high low : ℕ) → ℕ
-joined_words high low = high * 2 ^ 64 + low
+abbrev pub joined_c_words : (high low : ℕ) → ℕ
+joined_c_words high low = high * 2 ^ 64 + low
 
 -- the words of `n` represent the fraction `x`
-pub record IsNumber (n : UnitsNumber) (x : Fraction) : Type 0 where
+pub record IsCNumber (n : UnitsNumber) (x : Fraction) : Type 0 where
   pub sign : n.negative ≡ (if int_lt x.num (pos 0) then 1 else 0)
-  pub numerator : joined_words n.numerator_high n.numerator_low ≡ unsigned_abs x.num
-  pub denominator : joined_words n.denominator_high n.denominator_low ≡ x.den
+  pub numerator : joined_c_words n.numerator_high n.numerator_low ≡ unsigned_abs x.num
+  pub denominator : joined_c_words n.denominator_high n.denominator_low ≡ x.den

@@ -2,7 +2,7 @@
 
 ghost use Rattle.std.specs.Prelude.{◌≡◌, IfErr, IfOk, length};
 ghost use Rattle.units_c.specs.Answers as spec;
-ghost use Rattle.units_c.specs.Statuses.{code};
+ghost use Rattle.units_c.specs.Statuses.{status_code};
 ghost use Rattle.units_c.specs.Words as words;
 ghost use Rattle.units_c.specs.declared.status.Status.TheVariants as statuses;
 
@@ -21,7 +21,7 @@ pub struct Answer {
 
 /// Returns the answer for a reply.
 pub(crate) fn reply_answer(reply: Reply) -> Answer
-    ensures { result ≡ spec.reply_answer reply }
+    ensures { result ≡ spec.c_reply_answer reply }
 {
     let status = reply_status(&reply);
     Answer {
@@ -32,7 +32,7 @@ pub(crate) fn reply_answer(reply: Reply) -> Answer
 
 // Returns the status of a reply.
 fn reply_status(reply: &Reply) -> Status
-    ensures { result ≡ (spec.reply_answer reply.now).status }
+    ensures { result ≡ (spec.c_reply_answer reply.now).status }
 {
     if reply.refused {
         status_of_text(reply.text.as_bytes())
@@ -56,9 +56,9 @@ pub(crate) fn deliver(
     out: &mut [u8],
     written: &mut usize,
 ) -> u32
-    ensures memory { IfErr answered (λ _. result ≡ code statuses.NoMemory) }
+    ensures memory { IfErr answered (λ _. result ≡ status_code statuses.NoMemory) }
     ensures handed { IfOk answered (λ answer.
-        spec.IsHandedOut answer (length out.old) result written.new out.new) }
+        spec.IsAnswerHandedToC answer (length out.old) result written.new out.new) }
 {
     match answered {
         Ok(answer) => hand_out(&answer, out, written),
@@ -71,7 +71,7 @@ pub(crate) fn deliver(
 
 // Delivers an answer to a buffer.
 fn hand_out(answer: &Answer, out: &mut [u8], written: &mut usize) -> u32
-    ensures { spec.IsHandedOut answer.now (length out.old) result written.new out.new }
+    ensures { spec.IsAnswerHandedToC answer.now (length out.old) result written.new out.new }
 {
     let text = answer.text.as_bytes();
     *written = text.len();

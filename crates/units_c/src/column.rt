@@ -1,11 +1,11 @@
 //! Conversion of one column of a text of records.
 
 ghost use Rattle.std.specs.Prelude.{◌≡◌, ◌≤◌, IfOk, IfSome, None, length};
-ghost use Rattle.reply.specs.Options.{IsPrintable};
+ghost use Rattle.reply.specs.Options.{AreReplyOptionsPrintable};
 ghost use Rattle.units_c.specs.Columns as spec;
-ghost use Rattle.units_c.specs.Options.{reply_options};
-ghost use Rattle.units_c.specs.Statuses.{code};
-ghost use Rattle.units_c.specs.Tables.{IsTableAnswered, IsUnedited, definitions_of, query_table};
+ghost use Rattle.units_c.specs.Options.{c_reply_options};
+ghost use Rattle.units_c.specs.Statuses.{status_code};
+ghost use Rattle.units_c.specs.Tables.{IsCTableAnswered, IsCTableUnedited, c_definitions_of, c_query_table};
 ghost use Rattle.units_c.specs.declared.status.Status.TheVariants as statuses;
 
 use crate::answer::{Answer, deliver};
@@ -39,12 +39,12 @@ pub extern "C" fn units_convert_column(
     out: &mut [u8],
     written: &mut usize,
 ) -> u32
-    ensures answer { 1 ≤ column.now.number → IfSome (reply_options options.now) (λ o.
-        IsTableAnswered table.old.handle.held (λ e. spec.column_answer (query_table e) o column.now text.now)
+    ensures answer { 1 ≤ column.now.number → IfSome (c_reply_options options.now) (λ o.
+        IsCTableAnswered table.old.handle.held (λ e. spec.c_column_answer (c_query_table e) o column.now text.now)
         (length out.old) result written.new out.new) }
-    ensures options { reply_options options.now ≡ None → result ≡ code statuses.BadOptions }
-    ensures number { column.now.number ≡ 0 → result ≡ code statuses.BadOptions }
-    ensures unedited { IsUnedited table.old.handle.held table.new.handle.held }
+    ensures options { c_reply_options options.now ≡ None → result ≡ status_code statuses.BadOptions }
+    ensures number { column.now.number ≡ 0 → result ≡ status_code statuses.BadOptions }
+    ensures unedited { IsCTableUnedited table.old.handle.held table.new.handle.held }
 {
     *written = 0;
     let Some(options) = options.read() else {
@@ -69,11 +69,11 @@ fn answer_column(
     column: &UnitsColumn<'_>,
     text: &[u8],
 ) -> Result<Answer, AllocError>
-    requires printable { IsPrintable options.now }
+    requires printable { AreReplyOptionsPrintable options.now }
     requires number { 1 ≤ column.now.number }
     ensures answer { IfOk result (λ answer.
-        answer ≡ spec.column_answer (query_table content.old) options.now column.now text.now) }
-    ensures unedited { definitions_of content.new ≡ definitions_of content.old }
+        answer ≡ spec.c_column_answer (c_query_table content.old) options.now column.now text.now) }
+    ensures unedited { c_definitions_of content.new ≡ c_definitions_of content.old }
 {
     let question = Question {
         options,

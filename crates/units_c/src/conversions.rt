@@ -1,11 +1,11 @@
 //! Conversions.
 
 ghost use Rattle.std.specs.Prelude.{◌≡◌, IfOk, IfSome, None, length};
-ghost use Rattle.reply.specs.Options.{IsPrintable};
+ghost use Rattle.reply.specs.Options.{AreReplyOptionsPrintable};
 ghost use Rattle.units_c.specs.Answers as spec;
-ghost use Rattle.units_c.specs.Options.{reply_options};
-ghost use Rattle.units_c.specs.Statuses.{code};
-ghost use Rattle.units_c.specs.Tables.{IsTableAnswered, IsUnedited, definitions_of, query_table};
+ghost use Rattle.units_c.specs.Options.{c_reply_options};
+ghost use Rattle.units_c.specs.Statuses.{status_code};
+ghost use Rattle.units_c.specs.Tables.{IsCTableAnswered, IsCTableUnedited, c_definitions_of, c_query_table};
 ghost use Rattle.units_c.specs.declared.status.Status.TheVariants as statuses;
 
 use crate::answer::{Answer, deliver, reply_answer};
@@ -29,10 +29,11 @@ pub extern "C" fn units_convert(
     out: &mut [u8],
     written: &mut usize,
 ) -> u32
-    ensures answer { IfSome (reply_options options.now) (λ o. IsTableAnswered table.old.handle.held
-        (λ e. spec.conversion_answer (query_table e) o from.now to.now) (length out.old) result written.new out.new) }
-    ensures options { reply_options options.now ≡ None → result ≡ code statuses.BadOptions }
-    ensures unedited { IsUnedited table.old.handle.held table.new.handle.held }
+    ensures answer { IfSome (c_reply_options options.now) (λ o. IsCTableAnswered table.old.handle.held
+        (λ e. spec.c_conversion_answer (c_query_table e) o from.now to.now)
+        (length out.old) result written.new out.new) }
+    ensures options { c_reply_options options.now ≡ None → result ≡ status_code statuses.BadOptions }
+    ensures unedited { IsCTableUnedited table.old.handle.held table.new.handle.held }
 {
     *written = 0;
     let Some(options) = options.read() else {
@@ -54,10 +55,10 @@ fn answer_conversion(
     from: &[u8],
     to: &[u8],
 ) -> Result<Answer, AllocError>
-    requires { IsPrintable options.now }
+    requires { AreReplyOptionsPrintable options.now }
     ensures answer { IfOk result (λ answer.
-        answer ≡ spec.conversion_answer (query_table content.old) options.now from.now to.now) }
-    ensures unedited { definitions_of content.new ≡ definitions_of content.old }
+        answer ≡ spec.c_conversion_answer (c_query_table content.old) options.now from.now to.now) }
+    ensures unedited { c_definitions_of content.new ≡ c_definitions_of content.old }
 {
     statuses_law();
     let reply = content.convert(alloc, options, from, to)?;

@@ -1,9 +1,9 @@
 //! Definitions that C passes in: files in memory, variables and a locale.
 
 ghost use Rattle.std.specs.Prelude.{◌≡◌, IfOk, OnOk};
-ghost use Rattle.deck.specs.FileLoads.{IsLoaded};
+ghost use Rattle.deck.specs.FileLoads.{IsDeckLoaded};
 ghost use Rattle.units_c.specs.Definitions as spec;
-ghost use Rattle.units_io.specs.FileMap.{no_files};
+ghost use Rattle.units_io.specs.FileMap.{no_files_in_map};
 
 use deck::{Deck, DeckFault, Settings};
 use std::alloc::{AllocError, Global};
@@ -37,7 +37,7 @@ pub(crate) fn read_deck(
     alloc: Global,
     definitions: &UnitsDefinitions<'_>,
 ) -> Result<Deck, DeckFault>
-    ensures { IsLoaded (spec.deck_of_files definitions.now) result }
+    ensures { IsDeckLoaded (spec.c_deck_of_files definitions.now) result }
 {
     let mut files = MemFiles::new(alloc, &[])?;
     put_files(alloc, &mut files, definitions.files)?;
@@ -47,7 +47,7 @@ pub(crate) fn read_deck(
 
 // Returns the settings in `definitions`.
 fn read_settings(alloc: Global, definitions: &UnitsDefinitions<'_>) -> Result<Settings, AllocError>
-    ensures { IfOk result (λ settings. settings ≡ spec.definition_settings definitions.now) }
+    ensures { IfOk result (λ settings. settings ≡ spec.c_definition_settings definitions.now) }
 {
     let locale = Text::from_bytes(alloc, definitions.locale)?;
     let mut vars = Vars::with_seed(alloc, HashSeed::from_bytes(definitions.seed));
@@ -61,7 +61,7 @@ fn put_files(
     files: &mut MemFiles,
     entries: &[UnitsEntry<'_>],
 ) -> Result<(), AllocError>
-    ensures { OnOk result (files.new.files ≡ spec.with_files files.old.files entries.now) }
+    ensures { OnOk result (files.new.files ≡ spec.c_files_with_entries files.old.files entries.now) }
 {
     for entry in entries {
         files.add(alloc, entry.name, entry.content)?;
@@ -71,7 +71,7 @@ fn put_files(
 
 // Adds the variables in `entries`.
 fn put_values(alloc: Global, vars: &mut Vars, entries: &[UnitsEntry<'_>]) -> Result<(), AllocError>
-    ensures { OnOk result (vars.new ≡ spec.with_values vars.old entries.now) }
+    ensures { OnOk result (vars.new ≡ spec.c_variables_with_entries vars.old entries.now) }
 {
     for entry in entries {
         let name = Text::from_bytes(alloc, entry.name)?;

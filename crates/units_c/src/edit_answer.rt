@@ -1,12 +1,12 @@
 //! The answers to definitions and drops.
 
 ghost use Rattle.std.specs.Prelude.{◌≡◌, ◌≢◌, ◌++◌, [], Err, IfErr, IfOk, IsErr, true};
-ghost use Rattle.deck.specs.Edits.{after_define, after_drop};
+ghost use Rattle.deck.specs.Edits.{deck_after_defining, deck_after_dropping};
 ghost use Rattle.deck.specs.declared.fault.DeckFault.TheVariants as deck_fault;
-ghost use Rattle.def_entry.specs.Keys.{key_of};
-ghost use Rattle.def_lines.specs.Blanks.{trim_of};
-ghost use Rattle.edit_history.specs.Calls.{IsNoted};
-ghost use Rattle.live_table.specs.Edits.{IsEditOf};
+ghost use Rattle.def_entry.specs.Keys.{key_of_spelling};
+ghost use Rattle.def_lines.specs.Blanks.{trimmed_of_blanks};
+ghost use Rattle.edit_history.specs.Calls.{IsEditRecorded};
+ghost use Rattle.live_table.specs.Edits.{IsLiveEditOf};
 ghost use Rattle.units_c.specs.Edits as spec;
 
 use crate::answer::Answer;
@@ -24,8 +24,8 @@ fn answer_edit(
     edited: &Result<(), DeckFault>,
     named: &[u8],
 ) -> Result<Answer, AllocError>
-    requires { spec.HasMessage edited.now }
-    ensures answer { IfOk result (λ answer. answer ≡ spec.edited_answer edited.now named.now) }
+    requires { spec.HasCMessage edited.now }
+    ensures answer { IfOk result (λ answer. answer ≡ spec.c_edited_answer edited.now named.now) }
     ensures known { IfOk result (λ _. edited.now ≢ Err deck_fault.OutOfMemory) }
     ensures refused { IfErr result (λ _. IsErr edited.now) }
 {
@@ -37,8 +37,8 @@ fn answer_edit(
 
 // Returns the answer that refuses an edit.
 fn refusal(alloc: Global, fault: &DeckFault, named: &[u8]) -> Result<Answer, AllocError>
-    requires { spec.has_own_message fault.now ≡ true }
-    ensures answer { IfOk result (λ answer. answer ≡ spec.refusal_answer fault.now named.now) }
+    requires { spec.has_own_c_message fault.now ≡ true }
+    ensures answer { IfOk result (λ answer. answer ≡ spec.c_refusal_answer fault.now named.now) }
     ensures known { IfOk result (λ _. fault.now ≢ deck_fault.OutOfMemory) }
 {
     match fault {
@@ -81,10 +81,10 @@ pub(crate) fn answer_define(
     line: &[u8],
 ) -> Result<Answer, AllocError>
     ensures answer { IfOk result (λ answer. answer
-        ≡ spec.table_edit_answer (after_define (trim_of line.now) content.old.table.deck) []) }
-    ensures edited { spec.IsAnsweredEdit
-        (spec.deck_after_edit (after_define (trim_of line.now) content.old.table.deck) content.old.table.deck)
-        result content.old content.new }
+        ≡ spec.c_table_edit_answer (deck_after_defining (trimmed_of_blanks line.now) content.old.table.deck) []) }
+    ensures edited { spec.IsAnsweredCEdit
+        (spec.c_deck_after_edit (deck_after_defining (trimmed_of_blanks line.now) content.old.table.deck)
+        content.old.table.deck) result content.old content.new }
 {
     let edited = define_line(alloc, content, line);
     answer_edit(alloc, &edited, b"")
@@ -92,11 +92,11 @@ pub(crate) fn answer_define(
 
 // Adds the definition in `line`. Every refusal has its own message.
 fn define_line(alloc: Global, content: &mut EditedTable, line: &[u8]) -> Result<(), DeckFault>
-    ensures edit { IsEditOf (after_define (trim_of line.now) content.old.table.deck)
+    ensures edit { IsLiveEditOf (deck_after_defining (trimmed_of_blanks line.now) content.old.table.deck)
         content.old.table content.new.table result }
-    ensures noted { IsNoted content.old.history content.new.history
+    ensures noted { IsEditRecorded content.old.history content.new.history
         content.old.table.deck content.new.table.deck result }
-    ensures has_words { spec.HasMessage result }
+    ensures has_words { spec.HasCMessage result }
 {
     entry_memory_law();
     content.define(alloc, line)
@@ -110,10 +110,10 @@ pub(crate) fn answer_drop(
     text: &[u8],
 ) -> Result<Answer, AllocError>
     ensures answer { IfOk result (λ answer. answer
-        ≡ spec.drop_answer (spec.drop_outcome (key_of text.now) content.old.table.deck) text.now) }
-    ensures edited { spec.IsAnsweredEdit
-        (spec.deck_after_drop (spec.drop_outcome (key_of text.now) content.old.table.deck) content.old.table.deck)
-        result content.old content.new }
+        ≡ spec.c_drop_answer (spec.c_drop_outcome (key_of_spelling text.now) content.old.table.deck) text.now) }
+    ensures edited { spec.IsAnsweredCEdit
+        (spec.c_deck_after_drop (spec.c_drop_outcome (key_of_spelling text.now) content.old.table.deck)
+        content.old.table.deck) result content.old content.new }
 {
     match read_key(alloc, text) {
         Ok(key) => answer_drop_of(alloc, content, &key, text),
@@ -130,9 +130,9 @@ fn answer_drop_of(
     text: &[u8],
 ) -> Result<Answer, AllocError>
     ensures answer { IfOk result (λ answer. answer
-        ≡ spec.table_edit_answer (after_drop key.now content.old.table.deck) text.now) }
-    ensures edited { spec.IsAnsweredEdit
-        (spec.deck_after_edit (after_drop key.now content.old.table.deck) content.old.table.deck)
+        ≡ spec.c_table_edit_answer (deck_after_dropping key.now content.old.table.deck) text.now) }
+    ensures edited { spec.IsAnsweredCEdit
+        (spec.c_deck_after_edit (deck_after_dropping key.now content.old.table.deck) content.old.table.deck)
         result content.old content.new }
 {
     let edited = content.drop_last(alloc, key);
@@ -141,7 +141,7 @@ fn answer_drop_of(
 
 /// Returns the answer to a successful edit.
 pub(crate) fn edit_made(alloc: Global) -> Answer
-    ensures { result ≡ spec.edit_made_answer }
+    ensures { result ≡ spec.c_edit_made_answer }
 {
     Answer {
         status: Status::Done,

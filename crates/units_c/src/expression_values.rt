@@ -1,11 +1,11 @@
 //! Values of expressions.
 
 ghost use Rattle.std.specs.Prelude.{◌≡◌, ◌≢◌, ◌≤◌, IfOk, IfSome, drop, length};
-ghost use Rattle.reply.specs.Options.{IsPrintable};
+ghost use Rattle.reply.specs.Options.{AreReplyOptionsPrintable};
 ghost use Rattle.units_c.specs.Answers as spec;
-ghost use Rattle.units_c.specs.Statuses.{code};
-ghost use Rattle.units_c.specs.Tables.{IsTableAnswered, IsUnedited, definitions_of, query_table};
-ghost use Rattle.units_c.specs.ValueOptions.{HasNumber, exact_options};
+ghost use Rattle.units_c.specs.Statuses.{status_code};
+ghost use Rattle.units_c.specs.Tables.{IsCTableAnswered, IsCTableUnedited, c_definitions_of, c_query_table};
+ghost use Rattle.units_c.specs.ValueOptions.{HasCNumber, c_exact_options};
 ghost use Rattle.units_c.specs.declared.status.Status.TheVariants as statuses;
 
 use crate::answer::{Answer, deliver, fault_answer};
@@ -32,12 +32,12 @@ pub extern "C" fn units_value(
     out: &mut [u8],
     written: &mut usize,
 ) -> u32
-    ensures answer { IsTableAnswered table.old.handle.held
-        (λ e. spec.value_answer exact_options (spec.worth_of (query_table e) expression.now))
+    ensures answer { IsCTableAnswered table.old.handle.held
+        (λ e. spec.c_value_answer c_exact_options (spec.c_worth_of (c_query_table e) expression.now))
         (length out.old) result written.new out.new }
-    ensures number { result ≢ code statuses.NoMemory → IfSome table.old.handle.held
-        (λ e. HasNumber number.new (spec.worth_of (query_table e) expression.now)) }
-    ensures unedited { IsUnedited table.old.handle.held table.new.handle.held }
+    ensures number { result ≢ status_code statuses.NoMemory → IfSome table.old.handle.held
+        (λ e. HasCNumber number.new (spec.c_worth_of (c_query_table e) expression.now)) }
+    ensures unedited { IsCTableUnedited table.old.handle.held table.new.handle.held }
 {
     *written = 0;
     let Some(mut content) = table.take(alloc) else {
@@ -56,10 +56,10 @@ fn answer_value(
     number: &mut UnitsNumber,
 ) -> Result<Answer, AllocError>
     ensures answer { IfOk result (λ answer.
-        answer ≡ spec.value_answer exact_options (spec.worth_of (query_table content.old) expression.now)) }
+        answer ≡ spec.c_value_answer c_exact_options (spec.c_worth_of (c_query_table content.old) expression.now)) }
     ensures number { IfOk result (λ _.
-        HasNumber number.new (spec.worth_of (query_table content.old) expression.now)) }
-    ensures unedited { definitions_of content.new ≡ definitions_of content.old }
+        HasCNumber number.new (spec.c_worth_of (c_query_table content.old) expression.now)) }
+    ensures unedited { c_definitions_of content.new ≡ c_definitions_of content.old }
 {
     statuses_law();
     match content.value(alloc, &exact(), expression)? {
@@ -75,7 +75,7 @@ fn answer_value(
 
 // Returns the dimension of a quantity: the part of its text after the number.
 fn dimension(alloc: Global, x: &Quantity) -> Result<Text, AllocError>
-    ensures { IfOk result (λ text. text ≡ spec.dimension_text x.now) }
+    ensures { IfOk result (λ text. text ≡ spec.c_dimension_text x.now) }
 {
     let number = print_number(alloc, &x.value(), Style::Exact)?;
     let whole = x.show(alloc, Style::Exact)?;
@@ -93,8 +93,8 @@ fn after_front<'a>(text: &'a [u8], front: &[u8]) -> &'a [u8]
 
 // Returns options that write exact numbers in the texts of faults.
 fn exact() -> Options
-    ensures is { result ≡ exact_options }
-    ensures printable { IsPrintable result }
+    ensures is { result ≡ c_exact_options }
+    ensures printable { AreReplyOptionsPrintable result }
 {
     Options {
         digits: 8,

@@ -21,7 +21,7 @@ pub(crate) fn status_of_text(text: &[u8]) -> Status
 
 // The status of a fault of a query as a whole or of its names.
 fn question_status(text: &[u8]) -> Option<Status>
-    ensures { result ≡ spec.status_in spec.question_rows text.now }
+    ensures { result ≡ spec.status_in spec.question_status_rows text.now }
 {
     if text.starts_with(b"conformability error") {
         Some(Status::ConformabilityError)
@@ -46,7 +46,7 @@ fn question_status(text: &[u8]) -> Option<Status>
 
 // The status of a fault of a number, a sum or an exponent.
 fn number_status(text: &[u8]) -> Option<Status>
-    ensures { result ≡ spec.status_in spec.number_rows text.now }
+    ensures { result ≡ spec.status_in spec.number_status_rows text.now }
 {
     if text.starts_with(b"overflow") {
         Some(Status::Overflow)
@@ -67,7 +67,7 @@ fn number_status(text: &[u8]) -> Option<Status>
 
 // The status of a fault of a function or a table of points.
 fn function_status(text: &[u8]) -> Option<Status>
-    ensures { result ≡ spec.status_in spec.function_rows text.now }
+    ensures { result ≡ spec.status_in spec.function_status_rows text.now }
 {
     if text.starts_with(b"not in domain: ") {
         Some(Status::NotInDomain)

@@ -21,7 +21,7 @@ pub struct UnitsNumber {
 impl UnitsNumber {
     /// Stores a fraction.
     pub(crate) fn set(&mut self, x: &Frac)
-        ensures { spec.IsNumber self.new x.now }
+        ensures { spec.IsCNumber self.new x.now }
     {
         let top = x.num().unsigned_abs();
         let bottom = x.den().unsigned_abs();

@@ -1,7 +1,7 @@
 //! The options that C passes in.
 
 ghost use Rattle.std.specs.Prelude.{◌≡◌, IfSome};
-ghost use Rattle.reply.specs.Options.{IsPrintable};
+ghost use Rattle.reply.specs.Options.{AreReplyOptionsPrintable};
 ghost use Rattle.units_c.specs.Options as spec;
 
 use reply::Options;
@@ -29,8 +29,8 @@ pub struct UnitsOptions {
 impl UnitsOptions {
     /// Returns the options of replies, or `None` if there are more than 36 digits.
     pub(crate) fn read(&self) -> Option<Options>
-        ensures is { result ≡ spec.reply_options self.now }
-        ensures printable { IfSome result IsPrintable }
+        ensures is { result ≡ spec.c_reply_options self.now }
+        ensures printable { IfSome result AreReplyOptionsPrintable }
     {
         if self.digits > 36 {
             return None;

@@ -2,7 +2,7 @@
 
 ghost use Rattle.std.specs.Prelude.{◌≡◌, IfOk, length};
 ghost use Rattle.survey.specs.Searches.{search_report as report};
-ghost use Rattle.units_c.specs.Tables.{IsTableAnswered, IsUnedited, query_table};
+ghost use Rattle.units_c.specs.Tables.{IsCTableAnswered, IsCTableUnedited, c_query_table};
 ghost use Rattle.units_c.specs.declared.status.Status.TheVariants as statuses;
 
 use crate::answer::{Answer, deliver};
@@ -22,10 +22,10 @@ pub extern "C" fn units_search(
     out: &mut [u8],
     written: &mut usize,
 ) -> u32
-    ensures answer { IsTableAnswered table.old.handle.held
-        (λ e. record { status = statuses.Done; text = report (query_table e) text.now })
+    ensures answer { IsCTableAnswered table.old.handle.held
+        (λ e. record { status = statuses.Done; text = report (c_query_table e) text.now })
         (length out.old) result written.new out.new }
-    ensures unedited { IsUnedited table.old.handle.held table.new.handle.held }
+    ensures unedited { IsCTableUnedited table.old.handle.held table.new.handle.held }
 {
     *written = 0;
     let Some(content) = table.take(alloc) else {
@@ -39,7 +39,7 @@ pub extern "C" fn units_search(
 // Searches and returns the answer.
 fn answer_search(alloc: Global, content: &EditedTable, text: &[u8]) -> Result<Answer, AllocError>
     ensures { IfOk result (λ answer.
-        answer ≡ record { status = statuses.Done; text = report (query_table content.now) text.now }) }
+        answer ≡ record { status = statuses.Done; text = report (c_query_table content.now) text.now }) }
 {
     let text = search_report(alloc, content.table(), text)?;
     let status = Status::Done;

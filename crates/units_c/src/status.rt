@@ -51,7 +51,7 @@ pub enum Status {
 impl Status {
     /// Returns the number of a status.
     pub fn code(self) -> u32
-        ensures { result ≡ spec.code self }
+        ensures { result ≡ spec.status_code self }
     {
         self as u32
     }

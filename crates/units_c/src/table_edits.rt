@@ -1,11 +1,11 @@
 //! Edits of an open table. A refused edit changes nothing, nor does an edit that runs out of memory.
 
 ghost use Rattle.std.specs.Prelude.{◌≡◌, [], codes, length};
-ghost use Rattle.def_lines.specs.Blanks.{trim_of};
-ghost use Rattle.deck.specs.Edits.{after_define};
-ghost use Rattle.def_entry.specs.Keys.{key_of};
+ghost use Rattle.def_lines.specs.Blanks.{trimmed_of_blanks};
+ghost use Rattle.deck.specs.Edits.{deck_after_defining};
+ghost use Rattle.def_entry.specs.Keys.{key_of_spelling};
 ghost use Rattle.units_c.specs.Edits as spec;
-ghost use Rattle.units_c.specs.Tables.{IsTableAnswered};
+ghost use Rattle.units_c.specs.Tables.{IsCTableAnswered};
 ghost use Rattle.units_c.specs.Turns as turns;
 ghost use Rattle.units_c.specs.declared.status.Status.TheVariants as statuses;
 
@@ -26,12 +26,13 @@ pub extern "C" fn units_define(
     out: &mut [u8],
     written: &mut usize,
 ) -> u32
-    ensures answer { IsTableAnswered table.old.handle.held
-        (λ e. spec.table_edit_answer (after_define (trim_of line.now) e.table.deck) [])
+    ensures answer { IsCTableAnswered table.old.handle.held
+        (λ e. spec.c_table_edit_answer (deck_after_defining (trimmed_of_blanks line.now) e.table.deck) [])
         (length out.old) result written.new out.new }
-    ensures edited { spec.LeavesDeck result (λ deck. spec.deck_after_edit (after_define (trim_of line.now) deck) deck)
+    ensures edited { spec.LeavesCDeck result
+        (λ deck. spec.c_deck_after_edit (deck_after_defining (trimmed_of_blanks line.now) deck) deck)
         table.old.handle.held table.new.handle.held }
-    ensures noted { spec.NotesEdit result table.old.handle.held table.new.handle.held }
+    ensures noted { spec.NotesCEdit result table.old.handle.held table.new.handle.held }
 {
     *written = 0;
     let Some(mut content) = table.take(alloc) else {
@@ -52,13 +53,13 @@ pub extern "C" fn units_drop(
     out: &mut [u8],
     written: &mut usize,
 ) -> u32
-    ensures answer { IsTableAnswered table.old.handle.held
-        (λ e. spec.drop_answer (spec.drop_outcome (key_of key.now) e.table.deck) key.now)
+    ensures answer { IsCTableAnswered table.old.handle.held
+        (λ e. spec.c_drop_answer (spec.c_drop_outcome (key_of_spelling key.now) e.table.deck) key.now)
         (length out.old) result written.new out.new }
-    ensures edited { spec.LeavesDeck result
-        (λ deck. spec.deck_after_drop (spec.drop_outcome (key_of key.now) deck) deck)
+    ensures edited { spec.LeavesCDeck result
+        (λ deck. spec.c_deck_after_drop (spec.c_drop_outcome (key_of_spelling key.now) deck) deck)
         table.old.handle.held table.new.handle.held }
-    ensures noted { spec.NotesEdit result table.old.handle.held table.new.handle.held }
+    ensures noted { spec.NotesCEdit result table.old.handle.held table.new.handle.held }
 {
     *written = 0;
     let Some(mut content) = table.take(alloc) else {
@@ -77,10 +78,10 @@ pub extern "C" fn units_undo(
     out: &mut [u8],
     written: &mut usize,
 ) -> u32
-    ensures answer { IsTableAnswered table.old.handle.held
-        (λ e. turns.turn_answer statuses.NothingToUndo (codes "nothing to undo") e.history.done_steps)
+    ensures answer { IsCTableAnswered table.old.handle.held
+        (λ e. turns.c_turn_answer statuses.NothingToUndo (codes "nothing to undo") e.history.done_steps)
         (length out.old) result written.new out.new }
-    ensures undone { turns.Turns turns.IsBack result table.old.handle.held table.new.handle.held }
+    ensures undone { turns.TurnsCTable turns.IsCEditUndone result table.old.handle.held table.new.handle.held }
 {
     *written = 0;
     let Some(mut content) = table.take(alloc) else {
@@ -99,10 +100,10 @@ pub extern "C" fn units_redo(
     out: &mut [u8],
     written: &mut usize,
 ) -> u32
-    ensures answer { IsTableAnswered table.old.handle.held
-        (λ e. turns.turn_answer statuses.NothingToRedo (codes "nothing to redo") e.history.undone)
+    ensures answer { IsCTableAnswered table.old.handle.held
+        (λ e. turns.c_turn_answer statuses.NothingToRedo (codes "nothing to redo") e.history.undone)
         (length out.old) result written.new out.new }
-    ensures redone { turns.Turns turns.IsAgain result table.old.handle.held table.new.handle.held }
+    ensures redone { turns.TurnsCTable turns.IsCEditRedone result table.old.handle.held table.new.handle.held }
 {
     *written = 0;
     let Some(mut content) = table.take(alloc) else {

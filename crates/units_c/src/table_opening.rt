@@ -1,9 +1,9 @@
 //! Opening and closing tables.
 
 ghost use Rattle.std.specs.Prelude.{◌≡◌, ◌≢◌, Some, None, Err, ◌⊎◌, MatchResult};
-ghost use Rattle.deck.specs.FileLoads.{MayFail};
+ghost use Rattle.deck.specs.FileLoads.{MayDeckLoadFailWith};
 ghost use Rattle.units_c.specs.Definitions as spec;
-ghost use Rattle.units_c.specs.Statuses.{code};
+ghost use Rattle.units_c.specs.Statuses.{status_code};
 ghost use Rattle.units_c.specs.declared.status.Status.TheVariants as statuses;
 
 use crate::definitions::{UnitsDefinitions, read_deck};
@@ -21,11 +21,11 @@ pub extern "C" fn units_open(
     table: &mut UnitsTable,
     definitions: &UnitsDefinitions<'_>,
 ) -> u32
-    ensures opened { result ≡ code statuses.Done → table.old.handle.held ≡ None }
-    ensures content { result ≡ code statuses.Done → spec.IsTableOpened definitions.now table.new.handle.held }
-    ensures refused { result ≢ code statuses.Done → table.new.handle.held ≡ table.old.handle.held }
-    ensures status { table.old.handle.held ≡ None → spec.IsOpenStatus (spec.deck_of_files definitions.now) result }
-    ensures already { (table.old.handle.held ≡ None → ⊥) → result ≡ code statuses.AlreadyOpen }
+    ensures opened { result ≡ status_code statuses.Done → table.old.handle.held ≡ None }
+    ensures content { result ≡ status_code statuses.Done → spec.IsCTableOpened definitions.now table.new.handle.held }
+    ensures refused { result ≢ status_code statuses.Done → table.new.handle.held ≡ table.old.handle.held }
+    ensures status { table.old.handle.held ≡ None → spec.IsOpenStatus (spec.c_deck_of_files definitions.now) result }
+    ensures already { (table.old.handle.held ≡ None → ⊥) → result ≡ status_code statuses.AlreadyOpen }
 {
     if table.is_open() {
         return Status::AlreadyOpen.code();
@@ -43,8 +43,8 @@ pub extern "C" fn units_open(
 #[unsafe(no_mangle)]
 pub extern "C" fn units_close(alloc: Global, table: &mut UnitsTable) -> u32
     ensures closed { table.new.handle.held ≡ None }
-    ensures done { (table.old.handle.held ≡ None → ⊥) → result ≡ code statuses.Done }
-    ensures already { table.old.handle.held ≡ None → result ≡ code statuses.Closed }
+    ensures done { (table.old.handle.held ≡ None → ⊥) → result ≡ status_code statuses.Done }
+    ensures already { table.old.handle.held ≡ None → result ≡ status_code statuses.Closed }
 {
     match table.take(alloc) {
         Some(_content) => Status::Done.code(),
@@ -58,8 +58,8 @@ fn read_table(
     definitions: &UnitsDefinitions<'_>,
 ) -> Result<Box<EditedTable, Global>, DeckFault>
     ensures { MatchResult result
-        (λ content. spec.IsTableOpened definitions.now (Some content.value))
-        (λ fault. MayFail fault ⊎ (spec.deck_of_files definitions.now ≡ Err fault)) }
+        (λ content. spec.IsCTableOpened definitions.now (Some content.value))
+        (λ fault. MayDeckLoadFailWith fault ⊎ (spec.c_deck_of_files definitions.now ≡ Err fault)) }
 {
     let deck = read_deck(alloc, definitions)?;
     let content = Box::new(alloc, EditedTable::new(alloc, deck))?;

@@ -15,8 +15,8 @@ use std::alloc::{AllocError, Global};
 /// Undoes the last edit that is not undone, and returns the answer.
 pub(crate) fn answer_undo(alloc: Global, content: &mut EditedTable) -> Result<Answer, AllocError>
     ensures answer { IfOk result (λ answer. answer
-        ≡ spec.turn_answer statuses.NothingToUndo (codes "nothing to undo") content.old.history.done_steps) }
-    ensures undone { spec.IsAnsweredTurn spec.IsBack result content.old content.new }
+        ≡ spec.c_turn_answer statuses.NothingToUndo (codes "nothing to undo") content.old.history.done_steps) }
+    ensures undone { spec.IsAnsweredCTurn spec.IsCEditUndone result content.old content.new }
 {
     let turned = content.undo(alloc);
     answer_turn(alloc, turned)
@@ -25,8 +25,8 @@ pub(crate) fn answer_undo(alloc: Global, content: &mut EditedTable) -> Result<An
 /// Redoes the last undone edit, and returns the answer.
 pub(crate) fn answer_redo(alloc: Global, content: &mut EditedTable) -> Result<Answer, AllocError>
     ensures answer { IfOk result (λ answer. answer
-        ≡ spec.turn_answer statuses.NothingToRedo (codes "nothing to redo") content.old.history.undone) }
-    ensures redone { spec.IsAnsweredTurn spec.IsAgain result content.old content.new }
+        ≡ spec.c_turn_answer statuses.NothingToRedo (codes "nothing to redo") content.old.history.undone) }
+    ensures redone { spec.IsAnsweredCTurn spec.IsCEditRedone result content.old content.new }
 {
     let turned = content.redo(alloc);
     answer_turn(alloc, turned)
@@ -34,7 +34,7 @@ pub(crate) fn answer_redo(alloc: Global, content: &mut EditedTable) -> Result<An
 
 // Returns the answer to an undo or a redo with this outcome.
 fn answer_turn(alloc: Global, turned: Result<(), HistoryFault>) -> Result<Answer, AllocError>
-    ensures answer { IfOk result (λ answer. answer ≡ spec.turned_answer turned) }
+    ensures answer { IfOk result (λ answer. answer ≡ spec.c_turned_answer turned) }
     ensures known { IfOk result (λ _. turned ≢ Err history_fault.OutOfMemory) }
     ensures refused { IfErr result (λ _. IsErr turned) }
 {

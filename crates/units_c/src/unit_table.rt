@@ -1,7 +1,7 @@
 //! The struct that holds a table for C.
 
 ghost use Rattle.std.specs.Prelude.{◌≡◌, ◌==◌, None, Some, true, false, is_some, option_map};
-ghost use Rattle.units_c.specs.Tables.{open_mark};
+ghost use Rattle.units_c.specs.Tables.{c_table_open_mark};
 
 use edited_table::EditedTable;
 use std::alloc::Global;
@@ -15,12 +15,12 @@ const OPEN: u64 = 1_970_170_228;
 pub struct UnitsTable {
     pub(crate) state: u64,
     pub(crate) handle: Handle,
-    pub ghost marked: { is_some handle.held ≡ (state == open_mark) },
+    pub ghost marked: { is_some handle.held ≡ (state == c_table_open_mark) },
 }
 
 impl UnitsTable {
     /// Returns whether the table is open.
-    #[tactic(auto, using(crate::proofs::Held::absent))]
+    #[tactic(auto, using(crate::proofs::Held::c_value_is_absent))]
     pub(crate) fn is_open(&self) -> bool
         ensures open { result ≡ true → self.now.handle.held ≡ None → ⊥ }
         ensures closed { result ≡ false → self.now.handle.held ≡ None }

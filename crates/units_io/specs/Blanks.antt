@@ -2,5 +2,5 @@
 use Rattle.std.specs.Prelude.{◌==◌, ◌||◌, ℕ, Bool}
 
 -- the byte is a space or a tab
-abbrev pub is_blank : ℕ → Bool
-is_blank b = b == 32 || b == 9
+abbrev pub is_blank_text_byte : ℕ → Bool
+is_blank_text_byte b = b == 32 || b == 9

@@ -3,32 +3,32 @@ use Rattle.std.specs.Prelude.{◌≡◌, ◌≤◌, ℕ, List, length, nat_le, i
 use Rattle.std.specs.declared.option.Option.{Option}
 use Rattle.std.specs.FinMap as map
 pub use Rattle.units_io.specs.FileMap.{FileMap, longest_file}
-use Rattle.units_io.specs.Faults.{CountRose, next_count}
+use Rattle.units_io.specs.Faults.{HasIoCountRisen, next_io_count}
 use Rattle.units_io.specs.declared.files.FetchFault.{FetchFault}
 use Rattle.units_io.specs.declared.files.FetchFault.TheVariants.{Absent, TooLong, Failed, OutOfMemory}
 
 -- the result for a name with this file, or without a file
-abbrev pub answer_of : Option (List ℕ) → Result (List ℕ) FetchFault
-answer_of None = Err Absent
-answer_of (Some bytes) = if nat_le (length bytes) longest_file then Ok bytes else Err TooLong
+abbrev pub file_fetch_answer : Option (List ℕ) → Result (List ℕ) FetchFault
+file_fetch_answer None = Err Absent
+file_fetch_answer (Some bytes) = if nat_le (length bytes) longest_file then Ok bytes else Err TooLong
 
 -- the result that the known files determine, unless the fetch failed or ran out of memory
-abbrev pub IsFetched : FileMap → List ℕ → Result (List ℕ) FetchFault → Type 0
-IsFetched files name (Err Failed) = ⊤
-IsFetched files name (Err OutOfMemory) = ⊤
-IsFetched files name (Err Absent) = answer_of (map.get files name) ≡ Err Absent
-IsFetched files name (Err TooLong) = answer_of (map.get files name) ≡ Err TooLong
-IsFetched files name (Ok bytes) = answer_of (map.get files name) ≡ Ok bytes
+abbrev pub IsFileFetched : FileMap → List ℕ → Result (List ℕ) FetchFault → Type 0
+IsFileFetched files name (Err Failed) = ⊤
+IsFileFetched files name (Err OutOfMemory) = ⊤
+IsFileFetched files name (Err Absent) = file_fetch_answer (map.get files name) ≡ Err Absent
+IsFileFetched files name (Err TooLong) = file_fetch_answer (map.get files name) ≡ Err TooLong
+IsFileFetched files name (Ok bytes) = file_fetch_answer (map.get files name) ≡ Ok bytes
 
 -- the count never decreases, and it increases if the result is `Failed`
-pub record FailsWithCause (before now : ℕ) (result : Result (List ℕ) FetchFault) : Type 0 where
+pub record FetchFailsWithCause (before now : ℕ) (result : Result (List ℕ) FetchFault) : Type 0 where
   pub count_grows : before ≤ now
-  pub failure_counted : IsErrOf result Failed → CountRose before now
+  pub failure_counted : IsErrOf result Failed → HasIoCountRisen before now
 
 -- the count after a fetch, if each failure is counted once
 abbrev pub faults_after_fetch : ℕ → Result (List ℕ) FetchFault → ℕ
 faults_after_fetch faults (Ok _) = faults
 faults_after_fetch faults (Err Absent) = faults
 faults_after_fetch faults (Err TooLong) = faults
-faults_after_fetch faults (Err Failed) = next_count faults
+faults_after_fetch faults (Err Failed) = next_io_count faults
 faults_after_fetch faults (Err OutOfMemory) = faults

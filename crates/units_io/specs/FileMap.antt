@@ -15,20 +15,20 @@ abbrev pub longest_file : ℕ
 longest_file = 16777216
 
 -- the bytes of the file of this name
-abbrev pub file_of : FileMap → List ℕ → Option (List ℕ)
-file_of files name = map.get files name
+abbrev pub file_of_name : FileMap → List ℕ → Option (List ℕ)
+file_of_name files name = map.get files name
 
 -- the files of a list; of several files with one name, the first one counts
-abbrev pub files_of : List (List ℕ × List ℕ) → FileMap
-files_of entries = map.from_entries entries
+abbrev pub files_of_named_texts : List (List ℕ × List ℕ) → FileMap
+files_of_named_texts entries = map.from_entries entries
 
 -- the files with this file added, or replacing the one with its name
 abbrev pub with_file : FileMap → List ℕ → List ℕ → FileMap
 with_file files name bytes = map.insert files name bytes
 
 -- the map without files
-abbrev pub no_files : FileMap
-no_files = map.empty
+abbrev pub no_files_in_map : FileMap
+no_files_in_map = map.empty
 
 -- the encoding of a map of files as its entries
 abbrev pub file_map_code : Coded FileMap

@@ -2,7 +2,7 @@
 use Rattle.std.specs.Prelude.{◌≡◌, ℕ, List, refl}
 use Rattle.std.specs.Coded.{Coded, code_by, coded×, coded_list, coded_ℕ}
 use Rattle.units_io.specs.FileMap.{FileMap, file_map_code}
-pub use Rattle.units_io.specs.Faults.{next_count}
+pub use Rattle.units_io.specs.Faults.{next_io_count}
 
 -- a source in memory: the bytes left, the most bytes that a call gives, the calls that fail, and the counts
 pub record SourceState : Type 0 where
@@ -34,8 +34,8 @@ pub record FilesState : Type 0 where
   pub store_faults : ℕ
 
 -- the encoding of this state as its fields
-abbrev pub files_code : Coded FilesState
-files_code =
+abbrev pub memory_files_code : Coded FilesState
+memory_files_code =
     code_by (FileMap × (List ℕ × (ℕ × (ℕ × (List ℕ × (ℕ × ℕ))))))
     (coded× file_map_code
     (coded× (coded_list coded_ℕ)
@@ -53,13 +53,13 @@ files_code =
     (λ _. refl)
 
 -- a fetch preserves the facts about stores and the list of fetches that fail
-pub record KeepsStores (old new : FilesState) : Type 0 where
+pub record FetchKeepsStores (old new : FilesState) : Type 0 where
   pub fails : new.fails ≡ old.fails
   pub store_fails : new.store_fails ≡ old.store_fails
   pub store_calls : new.store_calls ≡ old.store_calls
 
 -- a store preserves the facts about fetches and the list of stores that fail
-pub record KeepsFetches (old new : FilesState) : Type 0 where
+pub record StoreKeepsFetches (old new : FilesState) : Type 0 where
   pub fails : new.fails ≡ old.fails
   pub store_fails : new.store_fails ≡ old.store_fails
   pub calls : new.calls ≡ old.calls

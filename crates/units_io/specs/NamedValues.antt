@@ -4,34 +4,34 @@ use Rattle.std.specs.Map.{lookup}
 use Rattle.std.specs.Str.{bytes_eq}
 
 -- pairs of a name and its value
-abbrev pub Pairs : Type 0
-Pairs = List (List ℕ × List ℕ)
+abbrev pub NamedTexts : Type 0
+NamedTexts = List (List ℕ × List ℕ)
 
 -- the value of the first pair with this name
-abbrev pub named_value : Pairs → List ℕ → Option (List ℕ)
-named_value pairs name = lookup (bytes_eq name) pairs
+abbrev pub named_text : NamedTexts → List ℕ → Option (List ℕ)
+named_text pairs name = lookup (bytes_eq name) pairs
 
 -- the pairs after the first pair with this name gets this value, or with a new pair at the end
-abbrev pub with_value : Pairs → List ℕ → List ℕ → Pairs
-with_value [] name value = (name, value) ∷ []
-with_value (pair ∷ pairs) name value =
-    if bytes_eq name pair.0 then (pair.0, value) ∷ pairs else pair ∷ with_value pairs name value
+abbrev pub with_named_text : NamedTexts → List ℕ → List ℕ → NamedTexts
+with_named_text [] name value = (name, value) ∷ []
+with_named_text (pair ∷ pairs) name value =
+    if bytes_eq name pair.0 then (pair.0, value) ∷ pairs else pair ∷ with_named_text pairs name value
 
 -- this name has this value, and each other name has the value that it had
-abbrev pub Sets : Pairs → Pairs → List ℕ → List ℕ → Type 0
-Sets old new name value =
-    (other : List ℕ) → named_value new other ≡ (if bytes_eq other name then Some value else named_value old other)
+abbrev pub SetsNamedText : NamedTexts → NamedTexts → List ℕ → List ℕ → Type 0
+SetsNamedText old new name value =
+    (other : List ℕ) → named_text new other ≡ (if bytes_eq other name then Some value else named_text old other)
 
 -- no pair has this name
-abbrev pub HasNoName : Pairs → List ℕ → Type 0
-HasNoName [] name = ⊤
-HasNoName (pair ∷ pairs) name = (pair.0 ≢ name) × HasNoName pairs name
+abbrev pub HasNoTextOfName : NamedTexts → List ℕ → Type 0
+HasNoTextOfName [] name = ⊤
+HasNoTextOfName (pair ∷ pairs) name = (pair.0 ≢ name) × HasNoTextOfName pairs name
 
 -- no two pairs have the same name
-abbrev pub HasDistinctNames : Pairs → Type 0
-HasDistinctNames [] = ⊤
-HasDistinctNames (pair ∷ pairs) = HasNoName pairs pair.0 × HasDistinctNames pairs
+abbrev pub HasDistinctTextNames : NamedTexts → Type 0
+HasDistinctTextNames [] = ⊤
+HasDistinctTextNames (pair ∷ pairs) = HasNoTextOfName pairs pair.0 × HasDistinctTextNames pairs
 
 -- the pairs of the entries of an index map
-abbrev pub pairs_of : {Y : Type 0} → List (Vec ℕ Y × List ℕ) → Pairs
-pairs_of entries = map (λ entry. (entry.0.items, entry.1)) entries
+abbrev pub named_texts_of_map : {Y : Type 0} → List (Vec ℕ Y × List ℕ) → NamedTexts
+named_texts_of_map entries = map (λ entry. (entry.0.items, entry.1)) entries

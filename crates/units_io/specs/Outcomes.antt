@@ -8,6 +8,6 @@ abbrev pub ◌>>=◌ : {A B E : Type 0} → Result A E → (A → Result B E) �
 (Err fault) >>= step = Err fault
 
 -- a call gives the expected result, as seen by this function, or this fault if memory runs out
-abbrev pub Gives : {A B E : Type 0} → E → (A → B) → Result A E → Result B E → Type 0
-Gives wanting seen given expected =
+abbrev pub GivesIoResult : {A B E : Type 0} → E → (A → B) → Result A E → Result B E → Type 0
+GivesIoResult wanting seen given expected =
     MatchResult given (λ x. expected ≡ Ok (seen x)) (λ fault. (fault ≡ wanting) ⊎ (expected ≡ Err fault))

@@ -80,8 +80,9 @@ impl<T: Drop> From<AllocFailed<T>> for StoreFault {
 /// Files that can be read and written.
 pub trait Files {
     ghost use Rattle.units_io.specs.declared.files.FetchFault.{FetchFault};
-    ghost use Rattle.units_io.specs.FetchResults.{FileMap, IsFetched, FailsWithCause, faults_after_fetch, longest_file};
-    ghost use Rattle.units_io.specs.StoreResults.{IsStored, StoreHasCause, faults_after_store};
+    ghost use Rattle.units_io.specs.FetchResults.{FileMap, IsFileFetched, FetchFailsWithCause, faults_after_fetch};
+    ghost use Rattle.units_io.specs.FetchResults.{longest_file};
+    ghost use Rattle.units_io.specs.StoreResults.{IsFileStored, StoreHasCause, faults_after_store};
 
     /// The bytes of each file, if the files are known.
     ghost files: { Self → Option FileMap };
@@ -100,11 +101,11 @@ pub trait Files {
     /// more than `LONGEST_FILE` bytes, and `Failed` if it could not be read. The count of failed fetches increases by
     /// one on `Failed`, and only then.
     fn fetch(&mut self, alloc: Global, name: &[u8]) -> Result<Text, FetchFault>
-        ensures told { IfSome (files self.old) (λ m. IsFetched m name.now result) }
+        ensures told { IfSome (files self.old) (λ m. IsFileFetched m name.now result) }
         ensures within { IfOk result (λ text. length text ≤ longest_file) }
         ensures fetched { is_fetch self.old name.now result self.new }
         ensures kept { files self.new ≡ files self.old }
-        ensures cause { FailsWithCause (faults self.old) (faults self.new) result }
+        ensures cause { FetchFailsWithCause (faults self.old) (faults self.new) result }
         ensures counted { faults self.new ≡ faults_after_fetch (faults self.old) result }
         ensures stores { store_faults self.new ≡ store_faults self.old };
 
@@ -113,7 +114,7 @@ pub trait Files {
     /// changes.
     fn store(&mut self, alloc: Global, name: &[u8], bytes: &[u8]) -> Result<(), StoreFault>
         requires { length bytes.now ≤ longest_file }
-        ensures told { IsStored (files self.old) (files self.new) name.now bytes.now result }
+        ensures told { IsFileStored (files self.old) (files self.new) name.now bytes.now result }
         ensures cause { StoreHasCause (store_faults self.old) (store_faults self.new) result }
         ensures counted { store_faults self.new ≡ faults_after_store (store_faults self.old) result }
         ensures fetches { faults self.new ≡ faults self.old };

@@ -1,8 +1,8 @@
 //! Byte sources.
 ghost use Rattle.std.specs.Prelude.{◌≡◌, ◌≤◌, ◌<◌, ◌+◌, ◌-◌, ◌^◌, List, ℕ, length, take, min, IfOk, OnErr, MatchResult};
 ghost use Rattle.std.specs.declared.option.Option.{Option};
-ghost use Rattle.units_io.specs.Faults.{HasCause};
-ghost use Rattle.units_io.specs.Bytes.{Loses, IsNoneLeft};
+ghost use Rattle.units_io.specs.Faults.{HasIoFailureCause};
+ghost use Rattle.units_io.specs.Bytes.{LosesSourceBytes, IsNoSourceByteLeft};
 
 use thiserror::Error;
 
@@ -27,11 +27,11 @@ pub trait Source {
     fn take(&mut self, buf: &mut [u8]) -> Result<usize, Failed>
         requires { 0 < length buf.old }
         ensures within { IfOk result (λ n. n ≤ length buf.new) }
-        ensures bytes { IfOk result (λ n. Loses (left self.old) (left self.new) (take n buf.new)) }
-        ensures end { IfOk result (λ n. n ≡ 0 → IsNoneLeft (left self.old)) }
+        ensures bytes { IfOk result (λ n. LosesSourceBytes (left self.old) (left self.new) (take n buf.new)) }
+        ensures end { IfOk result (λ n. n ≡ 0 → IsNoSourceByteLeft (left self.old)) }
         ensures kept { OnErr result (left self.new ≡ left self.old) }
         ensures count { MatchResult result
             (λ n. taken self.new ≡ min (taken self.old + n) (2 ^ 64 - 1))
             (λ _. taken self.new ≡ taken self.old) }
-        ensures cause { HasCause (faults self.old) (faults self.new) result };
+        ensures cause { HasIoFailureCause (faults self.old) (faults self.new) result };
 }

@@ -1,7 +1,8 @@
 //! Names with their values.
 ghost use Rattle.std.specs.Prelude.{◌≡◌, ◌++◌, ◌∷◌, [], length, IfNone, IfOk, OnOk, OnErr, slice_get, option_map, take};
 ghost use Rattle.std.specs.Option.{option_copied};
-ghost use Rattle.units_io.specs.NamedValues.{named_value, with_value, Sets, HasNoName, HasDistinctNames};
+ghost use Rattle.units_io.specs.NamedValues.{named_text, with_named_text, SetsNamedText, HasNoTextOfName};
+ghost use Rattle.units_io.specs.NamedValues.{HasDistinctTextNames};
 
 use crate::hash_seed::HashSeed;
 use crate::text::Text;
@@ -17,13 +18,13 @@ pub struct Vars {
 }
 
 impl Model for Vars {
-    ghost use Rattle.units_io.specs.NamedValues.{Pairs, pairs_of, HasDistinctNames};
+    ghost use Rattle.units_io.specs.NamedValues.{NamedTexts, named_texts_of_map, HasDistinctTextNames};
 
-    ghost Value = { Pairs };
+    ghost Value = { NamedTexts };
 
-    ghost view = { λ vars. pairs_of vars.map.entries };
+    ghost view = { λ vars. named_texts_of_map vars.map.entries };
 
-    ghost invariant = { λ vars. HasDistinctNames (pairs_of vars.map.entries) };
+    ghost invariant = { λ vars. HasDistinctTextNames (named_texts_of_map vars.map.entries) };
 }
 
 impl Vars {
@@ -50,7 +51,7 @@ impl Vars {
 
     /// Appends a pair whose name is new: `value` must return `None` for it. On an error nothing changes.
     pub fn push(&mut self, alloc: Global, item: (Text, Text)) -> Result<(), AllocError>
-        requires { HasNoName self.old item.0 }
+        requires { HasNoTextOfName self.old item.0 }
         ensures ok { OnOk result (self.new ≡ self.old ++ item ∷ []) }
         ensures err { OnErr result (self.new ≡ self.old) }
     {
@@ -61,10 +62,10 @@ impl Vars {
     /// Sets the value of a name: replaces the current value if the name has one, and appends a new pair otherwise. On
     /// an error nothing changes.
     pub fn set(&mut self, _alloc: Global, name: Text, value: Text) -> Result<(), AllocError>
-        ensures ok { OnOk result (self.new ≡ with_value self.old name value) }
-        ensures values { OnOk result (Sets self.old self.new name value) }
+        ensures ok { OnOk result (self.new ≡ with_named_text self.old name value) }
+        ensures values { OnOk result (SetsNamedText self.old self.new name value) }
         ensures err { OnErr result (self.new ≡ self.old) }
-        ensures distinct { HasDistinctNames self.new }
+        ensures distinct { HasDistinctTextNames self.new }
     {
         self.map.insert(name.into_bytes(), value)?;
         Ok(())
@@ -80,7 +81,7 @@ impl Vars {
     /// Returns the number of pairs.
     pub fn len(&self) -> usize
         ensures len { result ≡ length self.now }
-        ensures distinct { HasDistinctNames self.now }
+        ensures distinct { HasDistinctTextNames self.now }
     {
         self.map.len()
     }
@@ -95,8 +96,8 @@ impl Vars {
 
     /// Returns the value of the pair with this name, or `None` if no pair has it.
     pub fn value(&self, name: &[u8]) -> Option<&Text>
-        ensures value { option_copied result ≡ named_value self.now name.now }
-        ensures absent { IfNone result (HasNoName self.now name.now) }
+        ensures value { option_copied result ≡ named_text self.now name.now }
+        ensures absent { IfNone result (HasNoTextOfName self.now name.now) }
     {
         self.map.get(name)
     }

@@ -2,29 +2,31 @@
 use Rattle.std.proofs.Common.{◌≡◌, ◌≤◌, ◌⊎◌, [], inl, inr, ℕ, List, Bool, true, false, Some, None, refl, sym, ap, subst}
 use Rattle.std.proofs.Common.{◌∙◌, ◌||◌, arith}
 use Rattle.std.specs.declared.option.Option.{Option}
-use Rattle.units_io.specs.Bytes.{known_append, GrowsByFront}
-use Rattle.units_io.specs.Faults.{CountRose}
+use Rattle.units_io.specs.Bytes.{sink_bytes_append, SinkGrowsByPrefix}
+use Rattle.units_io.specs.Faults.{HasIoCountRisen}
 use Rattle.units_io.specs.FileMap.{FileMap}
-use Rattle.units_io.specs.NamedValues.{Pairs}
-use Rattle.session.specs.HeardLines.{heard}
-use Rattle.session.specs.Input.{lines_of}
+use Rattle.units_io.specs.NamedValues.{NamedTexts}
+use Rattle.session.specs.HeardLines.{heard_lines}
+use Rattle.session.specs.Input.{input_lines}
 use Rattle.std.proofs.lemmas.List.{append-nil}
 use Rattle.std.proofs.Math.Bool.{or-true}
 use Rattle.std.proofs.lemmas.Option.{same_Some}
 use Rattle.std.proofs.lemmas.Bool.{both_ways, or_parts}
-use Rattle.session.specs.Outside.{GrowsAtLeast, Outside}
+use Rattle.session.specs.Outside.{SessionOutside, SessionSinkGrowsAtLeast}
 use Rattle.session.specs.Sessions.{SessionState}
 use Rattle.session.specs.Talks.{SessionTrace}
-use Rattle.session.specs.KnownContents.{TellsIf, when_told}
-use Rattle.session.specs.BetweenPieces.{Opens}
-use Rattle.session.specs.WrittenOutput.{Course, IsAll, IsEnded, IsPrefixRun, course_output, session_course}
+use Rattle.session.specs.KnownContents.{IsSessionValueIfKnown, next_session_value_if_known}
+use Rattle.session.specs.BetweenPieces.{OpensSession}
+use Rattle.session.specs.WrittenOutput.{IsAllSessionOutput, IsSessionEnded, IsSessionPrefixRun, SessionCourse}
+use Rattle.session.specs.WrittenOutput.{output_of_session_course, session_course}
 use Rattle.session.specs.declared.over_source.SessionEnd.{SessionEnd}
 use Rattle.session.specs.declared.over_source.SessionEnd.TheVariants as end
 use Rattle.session.specs.declared.session_output.Said.{Said}
 use Rattle.units_run.specs.Calls.{run_over}
-use Rattle.units_run.specs.Endings.{IsCleanEnd, IsLeftOf, IsRunOutput, IsStated, IsWorked, MayEnd, status_of}
-use Rattle.units_run.specs.LeftAlone.{OpensNone, TakesNone}
-use Rattle.units_run.specs.Needs.{converts_column, needs_definitions, opens_session}
+use Rattle.units_run.specs.Endings.{IsCleanRunEnd, IsPlanOutput, IsRunOutput, IsStatedRunEnd, IsWorkedRunEnd, RunMayEnd}
+use Rattle.units_run.specs.Endings.{run_status_of_session_end}
+use Rattle.units_run.specs.LeftAlone.{RunOpensNoSession, RunTakesNoInput}
+use Rattle.units_run.specs.Needs.{run_converts_column, run_needs_definitions, run_opens_session}
 use Rattle.units_run.specs.ProgramPlans.{IsPlan}
 use Rattle.units_run.specs.Plans as plans
 use Rattle.units_run.specs.Work.{plan_of}
@@ -33,57 +35,61 @@ use Rattle.units_run.specs.declared.plan.Plan.TheVariants.{Whole, Opened, Column
 use Rattle.units_run.specs.declared.status.Status.{Status}
 use Rattle.units_run.specs.declared.status.Status.TheVariants.{Done, Refused, Usage, NoFile, ReadFault, WriteFault}
 use Rattle.units_run.specs.declared.status.Status.TheVariants.{NoMemory, InputTooLong}
-use Rattle.column_run.proofs.Writing.{grown_none}
+use Rattle.column_run.proofs.Writing.{column_run_sink_grows_by_none}
 use Rattle.units_run.proofs.SessionFiles.{SeesFiles}
 
 -- the status of a whole plan is a stated ending
-pub may_end_stated : (taken file session : Bool) (status : Status) → MayEnd taken file session status → IsStated status
-may_end_stated false file session status is = subst IsStated (sym is) tt
-may_end_stated true file session Done may = tt
-may_end_stated true file session Refused may = tt
-may_end_stated true file session Usage may = tt
-may_end_stated true file session NoFile may = tt
-may_end_stated true file session ReadFault may = absurd may
-may_end_stated true file session WriteFault may = absurd may
-may_end_stated true file session NoMemory may = absurd may
-may_end_stated true file session InputTooLong may = absurd may
+pub run_may_end_as_stated : (taken file session : Bool) (status : Status) → RunMayEnd taken file session status
+    → IsStatedRunEnd status
+run_may_end_as_stated false file session status is = subst IsStatedRunEnd (sym is) tt
+run_may_end_as_stated true file session Done may = tt
+run_may_end_as_stated true file session Refused may = tt
+run_may_end_as_stated true file session Usage may = tt
+run_may_end_as_stated true file session NoFile may = tt
+run_may_end_as_stated true file session ReadFault may = absurd may
+run_may_end_as_stated true file session WriteFault may = absurd may
+run_may_end_as_stated true file session NoMemory may = absurd may
+run_may_end_as_stated true file session InputTooLong may = absurd may
 
 -- the ways in which valid words may end, whether or not they lead to a session
-pub taken_may_end : (taken file session opens : Bool) (status : Status) → taken ≡ true → session ≡ opens
-    → MayEnd true file opens status → MayEnd taken file session status
-taken_may_end taken file session opens status is_taken is may =
-    subst (λ (t : Bool). MayEnd t file session status) (sym is_taken)
-    (subst (λ (s : Bool). MayEnd true file s status) (sym is) may)
+pub run_of_valid_words_may_end : (taken file session opens : Bool) (status : Status) → taken ≡ true → session ≡ opens
+    → RunMayEnd true file opens status → RunMayEnd taken file session status
+run_of_valid_words_may_end taken file session opens status is_taken is may =
+    subst (λ (t : Bool). RunMayEnd t file session status) (sym is_taken)
+    (subst (λ (s : Bool). RunMayEnd true file s status) (sym is) may)
 
-pub whole_left : (course : Course) (wanted status : Status) (before after : Outside) → IsStated status → status ≡ wanted
-    → IsAll (course_output course) before after → IsRunOutput course wanted status before after
-whole_left course wanted Done before after stated is all = (is, all)
-whole_left course wanted Refused before after stated is all = (is, all)
-whole_left course wanted Usage before after stated is all = (is, all)
-whole_left course wanted NoFile before after stated is all = (is, all)
-whole_left course wanted ReadFault before after stated is all = absurd stated
-whole_left course wanted WriteFault before after stated is all = absurd stated
-whole_left course wanted NoMemory before after stated is all = absurd stated
-whole_left course wanted InputTooLong before after stated is all = absurd stated
+pub whole_run_output_is_written : (course : SessionCourse) (wanted status : Status) (before after : SessionOutside)
+    → IsStatedRunEnd status → status ≡ wanted
+    → IsAllSessionOutput (output_of_session_course course) before after → IsRunOutput course wanted status before after
+whole_run_output_is_written course wanted Done before after stated is all = (is, all)
+whole_run_output_is_written course wanted Refused before after stated is all = (is, all)
+whole_run_output_is_written course wanted Usage before after stated is all = (is, all)
+whole_run_output_is_written course wanted NoFile before after stated is all = (is, all)
+whole_run_output_is_written course wanted ReadFault before after stated is all = absurd stated
+whole_run_output_is_written course wanted WriteFault before after stated is all = absurd stated
+whole_run_output_is_written course wanted NoMemory before after stated is all = absurd stated
+whole_run_output_is_written course wanted InputTooLong before after stated is all = absurd stated
 
 -- the course of a plan, and its ending
-abbrev pub plan_course : plans.Plan → FileMap → (input : List ℕ) → Course
+abbrev pub plan_course : plans.Plan → FileMap → (input : List ℕ) → SessionCourse
 plan_course want files input = record { output_for = λ lines. (run_over want files input lines).output; input = input }
 
 abbrev pub plan_end : plans.Plan → FileMap → (input : List ℕ) → Status
-plan_end want files input = (run_over want files input (heard (lines_of input))).status
+plan_end want files input = (run_over want files input (heard_lines (input_lines input))).status
 
 -- the run of a whole plan that is written in full
 pub whole_run : (want : plans.Plan) (files : FileMap) (input : List ℕ) (said : Said) (status : Status)
-    (before after : Outside) → IsStated status → IsPlan want files (Whole said status) before.steps after.steps
-    → after.out ≡ known_append before.out said.out.items → after.err ≡ known_append before.err said.err.items
-    → after.files ≡ when_told before.files files
-    → IsLeftOf want (plan_course want files input) (plan_end want files input) status before after
+    (before after : SessionOutside) → IsStatedRunEnd status → IsPlan want files (Whole said status) before.steps
+    after.steps
+    → after.out ≡ sink_bytes_append before.out said.out.items → after.err ≡ sink_bytes_append before.err said.err.items
+    → after.files ≡ next_session_value_if_known before.files files
+    → IsPlanOutput want (plan_course want files input) (plan_end want files input) status before after
 whole_run (plans.Whole run) files input said status before after stated planned out err kept =
-    whole_left (plan_course (plans.Whole run) files input) run.status status before after stated planned.status_is
+    whole_run_output_is_written (plan_course (plans.Whole run) files input) run.status status before after stated
+    planned.status_is
     (record {
-      out = out ∙ ap (known_append before.out) planned.out;
-      err = err ∙ ap (known_append before.err) planned.err;
+      out = out ∙ ap (sink_bytes_append before.out) planned.out;
+      err = err ∙ ap (sink_bytes_append before.err) planned.err;
       files = kept;
       steps = planned.steps;
     })
@@ -91,15 +97,20 @@ whole_run (plans.Opened talk) files input said status before after stated planne
 whole_run (plans.Columns work) files input said status before after stated planned out err kept = absurd planned
 
 -- the plan of a session, which is opened
-pub opened_talk : (want : plans.Plan) (files : FileMap) (said : Said) (session : SessionState) (before now : Outside)
+pub planned_session_is_opened : (want : plans.Plan) (files : FileMap) (said : Said) (session : SessionState)
+    (before now : SessionOutside)
     → IsPlan want files (Opened said session) before.steps now.steps → now.out ≡ before.out → now.err ≡ before.err
-    → now.files ≡ before.files → before.files ≡ when_told before.files files → before.fetch_faults ≤ now.fetch_faults
-    → before.store_faults ≤ now.store_faults → (first : SessionTrace) × (want ≡ plans.Opened first) × Opens first said
+    → now.files ≡ before.files → before.files ≡ next_session_value_if_known before.files files
+    → before.fetch_faults ≤ now.fetch_faults
+    → before.store_faults ≤ now.store_faults → (first : SessionTrace) × (want ≡ plans.Opened first) × OpensSession first
+    said
     session
     before now
-opened_talk (plans.Whole run) files said session before now planned out err kept told faults stores = absurd planned
-opened_talk (plans.Columns work) files said session before now planned out err kept told faults stores = absurd planned
-opened_talk (plans.Opened first) files said session before now planned out err kept told faults stores = (
+planned_session_is_opened (plans.Whole run) files said session before now planned out err kept told faults stores =
+    absurd planned
+planned_session_is_opened (plans.Columns work) files said session before now planned out err kept told faults stores =
+    absurd planned
+planned_session_is_opened (plans.Opened first) files said session before now planned out err kept told faults stores = (
   first,
   refl,
   record {
@@ -112,46 +123,53 @@ opened_talk (plans.Opened first) files said session before now planned out err k
       out = planned.out;
       err = planned.err;
       session = planned.session;
-      files = kept ∙ told ∙ ap (when_told before.files) (same_Some files first.state.files planned.files);
+      files = kept ∙ told ∙ ap (next_session_value_if_known before.files)
+          (same_Some files first.state.files planned.files);
       steps = planned.steps;
     };
   },
 )
 
-session_left : (course : Course) (end : SessionEnd) (before after : Outside) → IsEnded course end before after
-    → IsRunOutput course Done (status_of end) before after
-session_left course end.Done before after ended = (refl, ended)
-session_left course end.ReadFault before after ended = ended
-session_left course end.WriteFault before after ended = ended
-session_left course end.NoMemory before after ended = ended
-session_left course end.InputTooLong before after ended = ended
+session_run_output_is_written : (course : SessionCourse) (end : SessionEnd) (before after : SessionOutside)
+    → IsSessionEnded course end before after
+    → IsRunOutput course Done (run_status_of_session_end end) before after
+session_run_output_is_written course end.Done before after ended = (refl, ended)
+session_run_output_is_written course end.ReadFault before after ended = ended
+session_run_output_is_written course end.WriteFault before after ended = ended
+session_run_output_is_written course end.NoMemory before after ended = ended
+session_run_output_is_written course end.InputTooLong before after ended = ended
 
 -- the run of a plan with a session is that of the session
-pub opened_run : (want : plans.Plan) (first : SessionTrace) (files : FileMap) (input : List ℕ) (end : SessionEnd)
-    (before after : Outside) → want ≡ plans.Opened first → IsEnded (session_course first input) end before after
-    → IsLeftOf want (plan_course want files input) (plan_end want files input) (status_of end) before after
-opened_run want first files input end before after is ended =
+pub run_of_opened_session : (want : plans.Plan) (first : SessionTrace) (files : FileMap) (input : List ℕ)
+    (end : SessionEnd)
+    (before after : SessionOutside) → want ≡ plans.Opened first → IsSessionEnded (session_course first input) end before
+    after
+    → IsPlanOutput want (plan_course want files input) (plan_end want files input) (run_status_of_session_end end)
+    before after
+run_of_opened_session want first files input end before after is ended =
     subst
-    (λ (w : plans.Plan). IsLeftOf w (plan_course w files input) (plan_end w files input) (status_of end) before after)
-    (sym is) (session_left (session_course first input) end before after ended)
+    (λ (w : plans.Plan). IsPlanOutput w (plan_course w files input) (plan_end w files input)
+    (run_status_of_session_end end) before after)
+    (sym is) (session_run_output_is_written (session_course first input) end before after ended)
 
 -- if nothing is written, the new bytes are a front of anything
-pub front_same : (o after : Option (List ℕ)) (xs : List ℕ) → after ≡ o → GrowsByFront o after xs
-front_same o after xs e = (0, omega arith, e ∙ grown_none o)
+pub unwritten_run_output_is_front : (o after : Option (List ℕ)) (xs : List ℕ) → after ≡ o → SinkGrowsByPrefix o after xs
+unwritten_run_output_is_front o after xs e = (0, omega arith, e ∙ column_run_sink_grows_by_none o)
 
 -- if no line is answered and nothing is written, the output is a part of the whole
-unbegun : (want : plans.Plan) (files : FileMap) (input : List ℕ) (before after : Outside) → SeesFiles want files
-    → after.out ≡ before.out → after.err ≡ before.err → after.files ≡ when_told before.files files
-    → IsPrefixRun (plan_course want files input) before after
-unbegun want files input before after sees o e kept = record {
+unbegun_run_output_is_part : (want : plans.Plan) (files : FileMap) (input : List ℕ) (before after : SessionOutside)
+    → SeesFiles want files
+    → after.out ≡ before.out → after.err ≡ before.err → after.files ≡ next_session_value_if_known before.files files
+    → IsSessionPrefixRun (plan_course want files input) before after
+unbegun_run_output_is_part want files input before after sees o e kept = record {
   answered_lines = [];
-  lines_left = heard (lines_of input);
+  lines_left = heard_lines (input_lines input);
   lines_split = refl;
   output_front = record {
-    out = front_same before.out after.out ((plan_course want files input).output_for []).out o;
-    err = front_same before.err after.err ((plan_course want files input).output_for []).err e;
+    out = unwritten_run_output_is_front before.out after.out ((plan_course want files input).output_for []).out o;
+    err = unwritten_run_output_is_front before.err after.err ((plan_course want files input).output_for []).err e;
   };
-  files = kept ∙ ap (when_told before.files) (by want sees);
+  files = kept ∙ ap (next_session_value_if_known before.files) (by want sees);
 }
   where
     by : (w : plans.Plan) → SeesFiles w files → files ≡ (run_over w files input []).output.files
@@ -160,41 +178,47 @@ unbegun want files input before after sees o e kept = record {
     by (plans.Columns work) sees = refl
 
 -- the run without a plan because a file could not be read
-pub unread_run : (want : plans.Plan) (files : FileMap) (input : List ℕ) (before after : Outside) → SeesFiles want files
-    → after.out ≡ before.out → after.err ≡ before.err → after.files ≡ when_told before.files files
-    → CountRose before.fetch_faults after.fetch_faults
-    → IsLeftOf want (plan_course want files input) (plan_end want files input) ReadFault before after
+pub unread_run : (want : plans.Plan) (files : FileMap) (input : List ℕ) (before after : SessionOutside)
+    → SeesFiles want files
+    → after.out ≡ before.out → after.err ≡ before.err → after.files ≡ next_session_value_if_known before.files files
+    → HasIoCountRisen before.fetch_faults after.fetch_faults
+    → IsPlanOutput want (plan_course want files input) (plan_end want files input) ReadFault before after
 unread_run (plans.Whole run) files input before after sees o e kept rose =
-    (unbegun (plans.Whole run) files input before after sees o e kept, λ calm. absurd (calm rose))
+    (unbegun_run_output_is_part (plans.Whole run) files input before after sees o e kept, λ calm. absurd (calm rose))
 unread_run (plans.Opened talk) files input before after sees o e kept rose =
-    (unbegun (plans.Opened talk) files input before after sees o e kept, λ calm. absurd (calm rose))
+    (unbegun_run_output_is_part (plans.Opened talk) files input before after sees o e kept, λ calm. absurd (calm rose))
 unread_run (plans.Columns work) files input before after sees o e kept rose =
-    (o, front_same before.err after.err _ e)
+    (o, unwritten_run_output_is_front before.err after.err _ e)
 
 -- the run without a plan because memory ran out
-pub unmade_run : (want : plans.Plan) (files : FileMap) (input : List ℕ) (before after : Outside) → SeesFiles want files
-    → after.out ≡ before.out → after.err ≡ before.err → after.files ≡ when_told before.files files
-    → IsLeftOf want (plan_course want files input) (plan_end want files input) NoMemory before after
+pub unmade_run : (want : plans.Plan) (files : FileMap) (input : List ℕ) (before after : SessionOutside)
+    → SeesFiles want files
+    → after.out ≡ before.out → after.err ≡ before.err → after.files ≡ next_session_value_if_known before.files files
+    → IsPlanOutput want (plan_course want files input) (plan_end want files input) NoMemory before after
 unmade_run (plans.Whole run) files input before after sees o e kept =
-    unbegun (plans.Whole run) files input before after sees o e kept
+    unbegun_run_output_is_part (plans.Whole run) files input before after sees o e kept
 unmade_run (plans.Opened talk) files input before after sees o e kept =
-    unbegun (plans.Opened talk) files input before after sees o e kept
+    unbegun_run_output_is_part (plans.Opened talk) files input before after sees o e kept
 unmade_run (plans.Columns work) files input before after sees o e kept =
-    record { out = front_same before.out after.out _ o; err = front_same before.err after.err _ e }
+    record {
+      out = unwritten_run_output_is_front before.out after.out _ o;
+      err =
+          unwritten_run_output_is_front before.err after.err _ e;
+    }
 
 -- the run of a whole plan that is written in part
 pub cut_run : (want : plans.Plan) (files : FileMap) (input : List ℕ) (said : Said) (status : Status)
-    (before after : Outside) → IsPlan want files (Whole said status) before.steps after.steps
-    → GrowsByFront before.out after.out said.out.items → GrowsByFront before.err after.err said.err.items
-    → after.files ≡ when_told before.files files
-    → IsLeftOf want (plan_course want files input) (plan_end want files input) WriteFault before after
+    (before after : SessionOutside) → IsPlan want files (Whole said status) before.steps after.steps
+    → SinkGrowsByPrefix before.out after.out said.out.items → SinkGrowsByPrefix before.err after.err said.err.items
+    → after.files ≡ next_session_value_if_known before.files files
+    → IsPlanOutput want (plan_course want files input) (plan_end want files input) WriteFault before after
 cut_run (plans.Whole run) files input said status before after planned out err kept = record {
   answered_lines = [];
-  lines_left = heard (lines_of input);
+  lines_left = heard_lines (input_lines input);
   lines_split = refl;
   output_front = record {
-    out = subst (GrowsByFront before.out after.out) planned.out out;
-    err = subst (GrowsByFront before.err after.err) planned.err err;
+    out = subst (SinkGrowsByPrefix before.out after.out) planned.out out;
+    err = subst (SinkGrowsByPrefix before.err after.err) planned.err err;
   };
   files = (files, kept, inl refl);
 }
@@ -202,134 +226,145 @@ cut_run (plans.Opened talk) files input said status before after planned out err
 cut_run (plans.Columns work) files input said status before after planned out err kept = absurd planned
 
 -- a read fault is neither a write fault nor input that is too long
-pub no_write : ReadFault ≡ WriteFault → ⊥
-no_write is = cc
+pub run_read_fault_is_no_write_fault : ReadFault ≡ WriteFault → ⊥
+run_read_fault_is_no_write_fault is = cc
 
-pub not_long : ReadFault ≡ InputTooLong → ⊥
-not_long is = cc
+pub run_read_fault_is_not_too_long : ReadFault ≡ InputTooLong → ⊥
+run_read_fault_is_not_too_long is = cc
 
 -- running out of memory is none of these endings
-pub memory_done : NoMemory ≡ Done → ⊥
-memory_done is = cc
+pub run_memory_end_is_not_done : NoMemory ≡ Done → ⊥
+run_memory_end_is_not_done is = cc
 
-pub memory_read : NoMemory ≡ ReadFault → ⊥
-memory_read is = cc
+pub run_memory_end_is_no_read_fault : NoMemory ≡ ReadFault → ⊥
+run_memory_end_is_no_read_fault is = cc
 
-pub memory_write : NoMemory ≡ WriteFault → ⊥
-memory_write is = cc
+pub run_memory_end_is_no_write_fault : NoMemory ≡ WriteFault → ⊥
+run_memory_end_is_no_write_fault is = cc
 
-pub memory_long : NoMemory ≡ InputTooLong → ⊥
-memory_long is = cc
+pub run_memory_end_is_not_too_long : NoMemory ≡ InputTooLong → ⊥
+run_memory_end_is_not_too_long is = cc
 
 -- the files do not change if nothing changes them
-pub tells_stay : (needed : Bool) (files : Option FileMap) (m : FileMap) → TellsIf needed files m
-    → files ≡ when_told files m
-tells_stay needed None m h = refl
-tells_stay needed (Some told) m h = ap Some h
+pub run_files_stay_known : (needed : Bool) (files : Option FileMap) (m : FileMap) → IsSessionValueIfKnown needed files m
+    → files ≡ next_session_value_if_known files m
+run_files_stay_known needed None m h = refl
+run_files_stay_known needed (Some told) m h = ap Some h
 
 -- a run ends with a read fault only if its session does
-pub read_end : (e : SessionEnd) → status_of e ≡ ReadFault → e ≡ end.ReadFault
-read_end end.Done is = cc
-read_end end.ReadFault is = refl
-read_end end.WriteFault is = cc
-read_end end.NoMemory is = cc
-read_end end.InputTooLong is = cc
+pub run_read_fault_of_session : (e : SessionEnd) → run_status_of_session_end e ≡ ReadFault → e ≡ end.ReadFault
+run_read_fault_of_session end.Done is = cc
+run_read_fault_of_session end.ReadFault is = refl
+run_read_fault_of_session end.WriteFault is = cc
+run_read_fault_of_session end.NoMemory is = cc
+run_read_fault_of_session end.InputTooLong is = cc
 
-pub write_end : (e : SessionEnd) → status_of e ≡ WriteFault → e ≡ end.WriteFault
-write_end end.Done is = cc
-write_end end.ReadFault is = cc
-write_end end.WriteFault is = refl
-write_end end.NoMemory is = cc
-write_end end.InputTooLong is = cc
+pub run_write_fault_of_session : (e : SessionEnd) → run_status_of_session_end e ≡ WriteFault → e ≡ end.WriteFault
+run_write_fault_of_session end.Done is = cc
+run_write_fault_of_session end.ReadFault is = cc
+run_write_fault_of_session end.WriteFault is = refl
+run_write_fault_of_session end.NoMemory is = cc
+run_write_fault_of_session end.InputTooLong is = cc
 
-pub long_end : (e : SessionEnd) → status_of e ≡ InputTooLong → e ≡ end.InputTooLong
-long_end end.Done is = cc
-long_end end.ReadFault is = cc
-long_end end.WriteFault is = cc
-long_end end.NoMemory is = cc
-long_end end.InputTooLong is = refl
+pub run_input_too_long_of_session : (e : SessionEnd) → run_status_of_session_end e ≡ InputTooLong → e ≡ end.InputTooLong
+run_input_too_long_of_session end.Done is = cc
+run_input_too_long_of_session end.ReadFault is = cc
+run_input_too_long_of_session end.WriteFault is = cc
+run_input_too_long_of_session end.NoMemory is = cc
+run_input_too_long_of_session end.InputTooLong is = refl
 
-pub done_end : (e : SessionEnd) → status_of e ≡ Done → e ≡ end.Done
-done_end end.Done is = refl
-done_end end.ReadFault is = cc
-done_end end.WriteFault is = cc
-done_end end.NoMemory is = cc
-done_end end.InputTooLong is = cc
+pub run_done_of_session : (e : SessionEnd) → run_status_of_session_end e ≡ Done → e ≡ end.Done
+run_done_of_session end.Done is = refl
+run_done_of_session end.ReadFault is = cc
+run_done_of_session end.WriteFault is = cc
+run_done_of_session end.NoMemory is = cc
+run_done_of_session end.InputTooLong is = cc
 
-pub file_end : (e : SessionEnd) → status_of e ≡ NoFile → ⊥
-file_end end.Done is = cc
-file_end end.ReadFault is = cc
-file_end end.WriteFault is = cc
-file_end end.NoMemory is = cc
-file_end end.InputTooLong is = cc
+pub session_run_has_its_file : (e : SessionEnd) → run_status_of_session_end e ≡ NoFile → ⊥
+session_run_has_its_file end.Done is = cc
+session_run_has_its_file end.ReadFault is = cc
+session_run_has_its_file end.WriteFault is = cc
+session_run_has_its_file end.NoMemory is = cc
+session_run_has_its_file end.InputTooLong is = cc
 
 -- a session with a stated ending is done
-pub session_may_end : (file : Bool) (e : SessionEnd) → IsStated (status_of e) → MayEnd true file true (status_of e)
-session_may_end file end.Done s = tt
-session_may_end file end.ReadFault s = absurd s
-session_may_end file end.WriteFault s = absurd s
-session_may_end file end.NoMemory s = absurd s
-session_may_end file end.InputTooLong s = absurd s
+pub stated_session_run_may_end : (file : Bool) (e : SessionEnd) → IsStatedRunEnd (run_status_of_session_end e)
+    → RunMayEnd true file true (run_status_of_session_end e)
+stated_session_run_may_end file end.Done s = tt
+stated_session_run_may_end file end.ReadFault s = absurd s
+stated_session_run_may_end file end.WriteFault s = absurd s
+stated_session_run_may_end file end.NoMemory s = absurd s
+stated_session_run_may_end file end.InputTooLong s = absurd s
 
 -- a whole plan opens no session and converts no column
-pub none_opened : (want : plans.Plan) (files : FileMap) (said : Said) (session : SessionState) (old new : ℕ)
-    → plans.IsWhole want → IsPlan want files (Opened said session) old new → ⊥
-none_opened (plans.Whole run) files said session old new whole planned = planned
-none_opened (plans.Opened talk) files said session old new whole planned = whole
-none_opened (plans.Columns work) files said session old new whole planned = whole
+pub whole_plan_opens_no_session : (want : plans.Plan) (files : FileMap) (said : Said) (session : SessionState)
+    (old new : ℕ)
+    → plans.IsWholePlan want → IsPlan want files (Opened said session) old new → ⊥
+whole_plan_opens_no_session (plans.Whole run) files said session old new whole planned = planned
+whole_plan_opens_no_session (plans.Opened talk) files said session old new whole planned = whole
+whole_plan_opens_no_session (plans.Columns work) files said session old new whole planned = whole
 
-pub none_converted : (want : plans.Plan) (files : FileMap) (plan : ColumnPlan) (old new : ℕ)
-    → plans.IsWhole want → IsPlan want files (Columns plan) old new → ⊥
-none_converted (plans.Whole run) files plan old new whole planned = planned
-none_converted (plans.Opened talk) files plan old new whole planned = whole
-none_converted (plans.Columns work) files plan old new whole planned = whole
+pub whole_plan_converts_no_column : (want : plans.Plan) (files : FileMap) (plan : ColumnPlan) (old new : ℕ)
+    → plans.IsWholePlan want → IsPlan want files (Columns plan) old new → ⊥
+whole_plan_converts_no_column (plans.Whole run) files plan old new whole planned = planned
+whole_plan_converts_no_column (plans.Opened talk) files plan old new whole planned = whole
+whole_plan_converts_no_column (plans.Columns work) files plan old new whole planned = whole
 
-pub neither : {A B : Type 0} → (A → ⊥) → (B → ⊥) → A ⊎ B → ⊥
-neither a b (inl x) = a x
-neither a b (inr x) = b x
+pub run_is_neither_of_both : {A B : Type 0} → (A → ⊥) → (B → ⊥) → A ⊎ B → ⊥
+run_is_neither_of_both a b (inl x) = a x
+run_is_neither_of_both a b (inr x) = b x
 
 -- a session that was opened is not a run that opens none
-pub session_opens : (words : List (List ℕ)) (vars : Pairs) (told : Option FileMap) (said : Said)
+pub session_run_opens_a_session : (words : List (List ℕ)) (vars : NamedTexts) (told : Option FileMap) (said : Said)
     (session : SessionState)
-    (e : SessionEnd) (ending : Status) (old new : ℕ) → opens_session words ≡ true → status_of e ≡ ending
-    → ((m : FileMap) → TellsIf (needs_definitions words) told m
-    → IsPlan (plan_of words vars m) m (Opened said session) old new) → OpensNone words vars ending told → ⊥
-session_opens words vars told said session e ending old new opens is planned =
-    neither (λ (e : opens_session words ≡ false). both_ways (opens_session words) e opens)
-    (neither (λ file. file_end e (is ∙ file))
+    (e : SessionEnd) (ending : Status) (old new : ℕ) → run_opens_session words ≡ true
+    → run_status_of_session_end e ≡ ending
+    → ((m : FileMap) → IsSessionValueIfKnown (run_needs_definitions words) told m
+    → IsPlan (plan_of words vars m) m (Opened said session) old new) → RunOpensNoSession words vars ending told → ⊥
+session_run_opens_a_session words vars told said session e ending old new opens is planned =
+    run_is_neither_of_both (λ (e : run_opens_session words ≡ false). both_ways (run_opens_session words) e opens)
+    (run_is_neither_of_both (λ file. session_run_has_its_file e (is ∙ file))
     (λ whole.
-    none_opened (plan_of words vars whole.0) whole.0 said session old new whole.2 (planned whole.0 whole.1)))
+    whole_plan_opens_no_session (plan_of words vars whole.0) whole.0 said session old new whole.2
+    (planned whole.0 whole.1)))
 
 -- a run that reads no input opens no session
-pub takes_opens : (words : List (List ℕ)) (vars : Pairs) (ending : Status) (told : Option FileMap)
-    → TakesNone words vars ending told → OpensNone words vars ending told
-takes_opens words vars ending told (inl none) = inl (or_parts (opens_session words) (converts_column words) none).0
-takes_opens words vars ending told (inr none) = inr none
+pub run_without_input_opens_no_session : (words : List (List ℕ)) (vars : NamedTexts) (ending : Status)
+    (told : Option FileMap)
+    → RunTakesNoInput words vars ending told → RunOpensNoSession words vars ending told
+run_without_input_opens_no_session words vars ending told (inl none) =
+    inl (or_parts (run_opens_session words) (run_converts_column words) none).0
+run_without_input_opens_no_session words vars ending told (inr none) = inr none
 
 -- a whole run cannot end with `Done` if its words lead to a session, because then there is no deck
-pub no_session_done : (session column : Bool) (status : Status) → ((session || column) ≡ true → status ≡ NoFile)
+pub whole_session_run_is_not_done : (session column : Bool) (status : Status)
+    → ((session || column) ≡ true → status ≡ NoFile)
     → session ≡ true → status ≡ Done → ⊥
-no_session_done true column status h opens done = let e : Done ≡ NoFile = sym done ∙ h refl in cc
-no_session_done false column status h opens done = cc
+whole_session_run_is_not_done true column status h opens done = let e : Done ≡ NoFile = sym done ∙ h refl in cc
+whole_session_run_is_not_done false column status h opens done = cc
 
-pub no_column_worked : (session column : Bool) (status : Status) → ((session || column) ≡ true → status ≡ NoFile)
-    → column ≡ true → IsWorked status → ⊥
-no_column_worked session true status h converts worked = subst IsWorked (h (or-true session)) worked
-no_column_worked session false status h converts worked = cc
+pub whole_column_plan_is_not_worked : (session column : Bool) (status : Status)
+    → ((session || column) ≡ true → status ≡ NoFile)
+    → column ≡ true → IsWorkedRunEnd status → ⊥
+whole_column_plan_is_not_worked session true status h converts worked = subst IsWorkedRunEnd (h (or-true session))
+    worked
+whole_column_plan_is_not_worked session false status h converts worked = cc
 
 -- an ending that is neither a read fault nor a write fault is not a fault
-pub no_fault : (ending : Status) → (ending ≡ ReadFault → ⊥) → (ending ≡ WriteFault → ⊥) → IsCleanEnd ending
-no_fault Done read write = tt
-no_fault Refused read write = tt
-no_fault Usage read write = tt
-no_fault NoFile read write = tt
-no_fault ReadFault read write = absurd (read refl)
-no_fault WriteFault read write = absurd (write refl)
-no_fault NoMemory read write = tt
-no_fault InputTooLong read write = tt
+pub run_end_without_fault_is_clean : (ending : Status) → (ending ≡ ReadFault → ⊥) → (ending ≡ WriteFault → ⊥)
+    → IsCleanRunEnd ending
+run_end_without_fault_is_clean Done read write = tt
+run_end_without_fault_is_clean Refused read write = tt
+run_end_without_fault_is_clean Usage read write = tt
+run_end_without_fault_is_clean NoFile read write = tt
+run_end_without_fault_is_clean ReadFault read write = absurd (read refl)
+run_end_without_fault_is_clean WriteFault read write = absurd (write refl)
+run_end_without_fault_is_clean NoMemory read write = tt
+run_end_without_fault_is_clean InputTooLong read write = tt
 
 -- a sink to which bytes were written has grown by at least those bytes
-pub at_least : (before after : Option (List ℕ)) (bytes said : List ℕ) → said ≡ bytes → after ≡ known_append before said
-    → GrowsAtLeast before after bytes
-at_least before after bytes said is all =
-    ([], all ∙ ap (known_append before) (is ∙ sym (append-nil bytes)))
+pub run_sink_has_grown_by_its_bytes : (before after : Option (List ℕ)) (bytes said : List ℕ) → said ≡ bytes
+    → after ≡ sink_bytes_append before said
+    → SessionSinkGrowsAtLeast before after bytes
+run_sink_has_grown_by_its_bytes before after bytes said is all =
+    ([], all ∙ ap (sink_bytes_append before) (is ∙ sym (append-nil bytes)))

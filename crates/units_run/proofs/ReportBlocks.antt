@@ -7,99 +7,102 @@ use Rattle.std.proofs.lemmas.Grind.{flat_map-append}
 use Rattle.std.proofs.lemmas.Bool.Decides.{nat_tests}
 use Rattle.std.proofs.lemmas.List.{append-nil, take-append-drop, take_rest}
 use Rattle.std.proofs.lemmas.Bool.{true≢false}
-use Rattle.column_run.proofs.Writing.{front_all, front_behind, front_more, grown_none, grown_twice}
+use Rattle.column_run.proofs.Writing.{column_run_front_of_all, column_run_front_of_both, column_run_front_of_more}
+use Rattle.column_run.proofs.Writing.{column_run_sink_grows_by_none, column_run_sink_grows_twice}
 use Rattle.def_entry.specs.declared.key.Key.{Key}
 use Rattle.def_lines.specs.Words.{is_empty}
-use Rattle.deck.specs.Decks.{Contents}
-use Rattle.deck.specs.PlacedKeys.{key_there, keys_there}
-use Rattle.deck.specs.Tables.{table}
-use Rattle.live_table.specs.TableView.{IsAfterEvents, IsRightTable, Shown}
-use Rattle.live_table.specs.States.{Event}
-use Rattle.live_table.proofs.QuerySequence.{follows_both, follows_none}
+use Rattle.deck.specs.Decks.{DeckContents}
+use Rattle.deck.specs.PlacedKeys.{deck_key_at_place, deck_keys_at_places}
+use Rattle.deck.specs.Tables.{table_of_deck}
+use Rattle.live_table.specs.TableView.{IsAfterLiveEvents, IsRightLiveView, LiveView}
+use Rattle.live_table.specs.States.{LiveEvent}
+use Rattle.live_table.proofs.QuerySequence.{live_event_runs_in_turn, no_live_events_keep_view}
 use Rattle.survey.specs.Checks.{check_among, check_line, key_finding, queries_among}
-use Rattle.reply.specs.Options.{style_of}
+use Rattle.reply.specs.Options.{reply_style}
 use Rattle.reply.specs.declared.options.Options.{Options}
-use Rattle.units_io.specs.Bytes.{known_append, GrowsByFront}
-use Rattle.units_run.specs.Checks.{IsReportWritten}
+use Rattle.units_io.specs.Bytes.{sink_bytes_append, SinkGrowsByPrefix}
+use Rattle.units_run.specs.Checks.{IsRunReportWritten}
 use Rattle.units_run.specs.declared.status.Status.TheVariants.{Done, Refused}
 
 -- the keys at two lists of places, one after the other
-keys_both : (deck : Contents) (xs ys : List ℕ)
-    → keys_there deck.lines (xs ++ ys) ≡ keys_there deck.lines xs ++ keys_there deck.lines ys
-keys_both deck [] ys = refl
-keys_both deck (x ∷ xs) ys = go (key_there deck.lines x) (keys_both deck xs ys)
+run_report_keys_of_both : (deck : DeckContents) (xs ys : List ℕ)
+    → deck_keys_at_places deck.lines (xs ++ ys) ≡ deck_keys_at_places deck.lines xs ++ deck_keys_at_places deck.lines ys
+run_report_keys_of_both deck [] ys = refl
+run_report_keys_of_both deck (x ∷ xs) ys = go (deck_key_at_place deck.lines x) (run_report_keys_of_both deck xs ys)
   where
-    go : (o : Option Key) → keys_there deck.lines (xs ++ ys) ≡ keys_there deck.lines xs ++ keys_there deck.lines ys
-        → cons_option o (keys_there deck.lines (xs ++ ys))
-        ≡ cons_option o (keys_there deck.lines xs) ++ keys_there deck.lines ys
+    go : (o : Option Key) → deck_keys_at_places deck.lines (xs ++ ys) ≡ deck_keys_at_places deck.lines xs
+        ++ deck_keys_at_places deck.lines ys
+        → cons_option o (deck_keys_at_places deck.lines (xs ++ ys))
+        ≡ cons_option o (deck_keys_at_places deck.lines xs) ++ deck_keys_at_places deck.lines ys
     go None e = e
     go (Some k) e = ap (λ (ks : List Key). k ∷ ks) e
 
 -- two lists of bytes together are not empty if either is not
-some_both : (xs ys : List ℕ) → not (is_empty (xs ++ ys)) ≡ (not (is_empty xs) || not (is_empty ys))
-some_both [] ys = refl
-some_both (x ∷ xs) ys = refl
+run_report_bytes_of_both : (xs ys : List ℕ) → not (is_empty (xs ++ ys)) ≡ (not (is_empty xs) || not (is_empty ys))
+run_report_bytes_of_both [] ys = refl
+run_report_bytes_of_both (x ∷ xs) ys = refl
 
 -- a list of places whose length is 0 is empty
-pub no_places : (places : List ℕ) (none : Bool) → none ≡ (length places == 0) → none ≡ true → places ≡ []
-no_places [] none is e = refl
-no_places (x ∷ places) none is e = absurd (grind (arith, nat_tests, is, e))
+pub run_report_without_places : (places : List ℕ) (none : Bool) → none ≡ (length places == 0) → none ≡ true
+    → places ≡ []
+run_report_without_places [] none is e = refl
+run_report_without_places (x ∷ places) none is e = absurd (grind (arith, nat_tests, is, e))
 
 -- the ending of a report, depending on whether it has any bytes
-pub reported : (bytes : List ℕ) (any : Bool) (before after : Option (List ℕ)) → any ≡ not (is_empty bytes)
-    → after ≡ known_append before bytes → IsReportWritten bytes (if any then Refused else Done) before after
-reported [] true before after is all = absurd (true≢false is)
-reported [] false before after is all = (refl, all)
-reported (b ∷ bytes) true before after is all = (refl, all)
-reported (b ∷ bytes) false before after is all = absurd (true≢false (sym is))
+pub run_report_ending : (bytes : List ℕ) (any : Bool) (before after : Option (List ℕ)) → any ≡ not (is_empty bytes)
+    → after ≡ sink_bytes_append before bytes → IsRunReportWritten bytes (if any then Refused else Done) before after
+run_report_ending [] true before after is all = absurd (true≢false is)
+run_report_ending [] false before after is all = (refl, all)
+run_report_ending (b ∷ bytes) true before after is all = (refl, all)
+run_report_ending (b ∷ bytes) false before after is all = absurd (true≢false (sym is))
 
-module _ (deck : Contents) (options : Options) where
+module _ (deck : DeckContents) (options : Options) where
   -- the lines of the keys at some places, and the queries that are made for them
   abbrev pub lines_of : List ℕ → List ℕ
-  lines_of places = check_among (table deck) (style_of options) (keys_there deck.lines places)
+  lines_of places = check_among (table_of_deck deck) (reply_style options) (deck_keys_at_places deck.lines places)
 
-  abbrev pub queries_of : List ℕ → List Event
-  queries_of places = queries_among (table deck) (keys_there deck.lines places)
+  abbrev pub queries_of : List ℕ → List LiveEvent
+  queries_of places = queries_among (table_of_deck deck) (deck_keys_at_places deck.lines places)
 
   lines_both : (xs ys : List ℕ) → lines_of (xs ++ ys) ≡ lines_of xs ++ lines_of ys
   lines_both xs ys =
-      ap (check_among (table deck) (style_of options)) (keys_both deck xs ys)
-      ∙ flat_map-append (check_line (table deck) (style_of options)) (keys_there deck.lines xs)
-      (keys_there deck.lines ys)
+      ap (check_among (table_of_deck deck) (reply_style options)) (run_report_keys_of_both deck xs ys)
+      ∙ flat_map-append (check_line (table_of_deck deck) (reply_style options)) (deck_keys_at_places deck.lines xs)
+      (deck_keys_at_places deck.lines ys)
 
   queries_both : (xs ys : List ℕ) → queries_of (xs ++ ys) ≡ queries_of xs ++ queries_of ys
   queries_both xs ys =
-      ap (queries_among (table deck)) (keys_both deck xs ys)
-      ∙ flat_map-append (λ (k : Key). (key_finding (table deck) k).events) (keys_there deck.lines xs)
-      (keys_there deck.lines ys)
+      ap (queries_among (table_of_deck deck)) (run_report_keys_of_both deck xs ys)
+      ∙ flat_map-append (λ (k : Key). (key_finding (table_of_deck deck) k).events) (deck_keys_at_places deck.lines xs)
+      (deck_keys_at_places deck.lines ys)
 
 -- the lines of the first places are made, and all of them but the last are written
-pub record IsUnderway (options : Options) (places head : List ℕ) (start : Option (List ℕ)) (before : Shown) (old : ℕ)
-    (rest lines : List ℕ) (any : Bool) (out : Option (List ℕ)) (now : Shown) (new : ℕ) : Type 0 where
+pub record IsUnderway (options : Options) (places head : List ℕ) (start : Option (List ℕ)) (before : LiveView) (old : ℕ)
+    (rest lines : List ℕ) (any : Bool) (out : Option (List ℕ)) (now : LiveView) (new : ℕ) : Type 0 where
   pub front : List ℕ
   pub written : List ℕ
   pub parts : places ≡ front ++ rest
-  pub out_is : out ≡ known_append start written
+  pub out_is : out ≡ sink_bytes_append start written
   pub text : written ++ lines ≡ head ++ lines_of before.deck options front
   pub any_is : any ≡ not (is_empty written)
   pub deck : now.deck ≡ before.deck
-  pub follows : IsAfterEvents (queries_of before.deck options front) before now old new
+  pub follows : IsAfterLiveEvents (queries_of before.deck options front) before now old new
 
-module _ (options : Options) (places head : List ℕ) (start : Option (List ℕ)) (before : Shown) (old : ℕ) where
-  pub underway_start : IsRightTable before
+module _ (options : Options) (places head : List ℕ) (start : Option (List ℕ)) (before : LiveView) (old : ℕ) where
+  pub underway_start : IsRightLiveView before
       → IsUnderway options places head start before old places head false start before old
   underway_start right = record {
     front = [];
     written = [];
     parts = refl;
-    out_is = grown_none start;
+    out_is = column_run_sink_grows_by_none start;
     text = sym (append-nil head);
     any_is = refl;
     deck = refl;
-    follows = follows_none before old right;
+    follows = no_live_events_keep_view before old right;
   }
 
-  module _ (rest lines : List ℕ) (any : Bool) (out : Option (List ℕ)) (now : Shown) (new : ℕ)
+  module _ (rest lines : List ℕ) (any : Bool) (out : Option (List ℕ)) (now : LiveView) (new : ℕ)
       (u : IsUnderway options places head start before old rest lines any out now new) where
     -- all bytes of the report, of which the bytes made so far are a front
     all_text : head ++ lines_of before.deck options places
@@ -112,16 +115,16 @@ module _ (options : Options) (places head : List ℕ) (start : Option (List ℕ)
         ∙ append_assoc u.written lines (lines_of before.deck options rest)
 
     -- the bytes written so far are a front of all
-    pub front_now : GrowsByFront start out (head ++ lines_of before.deck options places)
+    pub front_now : SinkGrowsByPrefix start out (head ++ lines_of before.deck options places)
     front_now =
-        front_more start out u.written (lines ++ lines_of before.deck options rest) _ all_text
-        (front_all start out u.written u.out_is)
+        column_run_front_of_more start out u.written (lines ++ lines_of before.deck options rest) _ all_text
+        (column_run_front_of_all start out u.written u.out_is)
 
-    module _ (n : ℕ) (further : List ℕ) (later : Shown) (last : ℕ)
+    module _ (n : ℕ) (further : List ℕ) (later : LiveView) (last : ℕ)
         (is : further ≡ lines ++ lines_of now.deck options (take n rest)) (same : later.deck ≡ now.deck)
-        (made : IsAfterEvents (queries_of now.deck options (take n rest)) now later new last) where
+        (made : IsAfterLiveEvents (queries_of now.deck options (take n rest)) now later new last) where
       further_is : further ≡ lines ++ lines_of before.deck options (take n rest)
-      further_is = is ∙ ap (λ (d : Contents). lines ++ lines_of d options (take n rest)) u.deck
+      further_is = is ∙ ap (λ (d : DeckContents). lines ++ lines_of d options (take n rest)) u.deck
 
       abbrev front_further : List ℕ
       front_further = u.front ++ take n rest
@@ -141,20 +144,20 @@ module _ (options : Options) (places head : List ℕ) (start : Option (List ℕ)
           ∙ ap (λ (ls : List ℕ). head ++ ls) (sym (lines_both before.deck options u.front (take n rest)))
 
       -- if a front of the next lines is written, too, the bytes written are still a front of all
-      pub front_next : (after : Option (List ℕ)) → GrowsByFront out after further
-          → GrowsByFront start after (head ++ lines_of before.deck options places)
+      pub front_next : (after : Option (List ℕ)) → SinkGrowsByPrefix out after further
+          → SinkGrowsByPrefix start after (head ++ lines_of before.deck options places)
       front_next after f =
-          front_more start after (u.written ++ further) (lines_of before.deck options (drop n rest)) _
+          column_run_front_of_more start after (u.written ++ further) (lines_of before.deck options (drop n rest)) _
           (ap (λ (ps : List ℕ). head ++ lines_of before.deck options ps) parts_next
           ∙ ap (λ (ls : List ℕ). head ++ ls) (lines_both before.deck options front_further (drop n rest))
           ∙ sym (append_assoc head (lines_of before.deck options front_further)
           (lines_of before.deck options (drop n rest)))
           ∙ ap (λ (ls : List ℕ). ls ++ lines_of before.deck options (drop n rest)) (sym text_next))
-          (front_behind start out after u.written further u.out_is f)
+          (column_run_front_of_both start out after u.written further u.out_is f)
 
       -- the next lines are written
       pub underway_next : (left cleared : List ℕ) (after : Option (List ℕ)) (some : Bool)
-          → left ≡ take (length rest - n) (drop n rest) → cleared ≡ [] → after ≡ known_append out further
+          → left ≡ take (length rest - n) (drop n rest) → cleared ≡ [] → after ≡ sink_bytes_append out further
           → some ≡ (any || not (is_empty further))
           → IsUnderway options places head start before old left cleared some after later last
       underway_next left cleared after some behind none all either = record {
@@ -163,8 +166,8 @@ module _ (options : Options) (places head : List ℕ) (start : Option (List ℕ)
         parts = parts_next ∙ ap (λ (ps : List ℕ). front_further ++ ps) (sym (behind ∙ take_rest rest n));
         out_is =
             all
-            ∙ ap (λ (o : Option (List ℕ)). known_append o further) u.out_is
-            ∙ grown_twice start u.written further;
+            ∙ ap (λ (o : Option (List ℕ)). sink_bytes_append o further) u.out_is
+            ∙ column_run_sink_grows_twice start u.written further;
         text =
             ap (λ (ls : List ℕ). (u.written ++ further) ++ ls) none
             ∙ append-nil (u.written ++ further)
@@ -172,20 +175,22 @@ module _ (options : Options) (places head : List ℕ) (start : Option (List ℕ)
         any_is =
             either
             ∙ ap (λ (b : Bool). b || not (is_empty further)) u.any_is
-            ∙ sym (some_both u.written further);
+            ∙ sym (run_report_bytes_of_both u.written further);
         deck = same ∙ u.deck;
         follows =
-            subst (λ (es : List Event). IsAfterEvents es before later old last)
+            subst (λ (es : List LiveEvent). IsAfterLiveEvents es before later old last)
             (sym (queries_both before.deck options u.front (take n rest)))
-            (follows_both (queries_of before.deck options u.front) (queries_of before.deck options (take n rest)) before
+            (live_event_runs_in_turn (queries_of before.deck options u.front)
+            (queries_of before.deck options (take n rest)) before
             now
             later old new last u.follows
-            (subst (λ (d : Contents). IsAfterEvents (queries_of d options (take n rest)) now later new last) u.deck
+            (subst (λ (d : DeckContents). IsAfterLiveEvents (queries_of d options (take n rest)) now later new last)
+            u.deck
             made));
       }
 
   -- no place is left, and everything is written
-  module _ (rest lines : List ℕ) (any : Bool) (out : Option (List ℕ)) (now : Shown) (new : ℕ)
+  module _ (rest lines : List ℕ) (any : Bool) (out : Option (List ℕ)) (now : LiveView) (new : ℕ)
       (u : IsUnderway options places head start before old rest lines any out now new) (none : rest ≡ [])
       (cleared : lines ≡ []) where
     places_over : u.front ≡ places
@@ -198,13 +203,14 @@ module _ (options : Options) (places head : List ℕ) (start : Option (List ℕ)
         ∙ u.text
         ∙ ap (λ (ps : List ℕ). head ++ lines_of before.deck options ps) places_over
 
-    pub written_over : IsReportWritten (head ++ lines_of before.deck options places) (if any then Refused else Done)
+    pub written_over : IsRunReportWritten (head ++ lines_of before.deck options places) (if any then Refused else Done)
         start out
     written_over =
-        reported (head ++ lines_of before.deck options places) any start out
-        (u.any_is ∙ ap (λ (ls : List ℕ). not (is_empty ls)) text_over) (u.out_is ∙ ap (known_append start) text_over)
+        run_report_ending (head ++ lines_of before.deck options places) any start out
+        (u.any_is ∙ ap (λ (ls : List ℕ). not (is_empty ls)) text_over)
+        (u.out_is ∙ ap (sink_bytes_append start) text_over)
 
-    pub follows_over : IsAfterEvents (queries_of before.deck options places) before now old new
+    pub follows_over : IsAfterLiveEvents (queries_of before.deck options places) before now old new
     follows_over =
-        subst (λ (ps : List ℕ). IsAfterEvents (queries_of before.deck options ps) before now old new) places_over
+        subst (λ (ps : List ℕ). IsAfterLiveEvents (queries_of before.deck options ps) before now old new) places_over
         u.follows

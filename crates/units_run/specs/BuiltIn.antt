@@ -3,19 +3,19 @@ use Rattle.std.specs.Prelude.{◌≡◌, ◌+◌, ◌*◌, ◌-◌, ◌^◌, ◌
 use Rattle.units_run.specs.declared.built_in.TheConstants.{BUILT_IN}
 
 -- the text of the built-in definitions, which is written out once, in the code
-unfoldable pub built_in : List ℕ
-built_in = BUILT_IN.now
+unfoldable pub run_built_in_text : List ℕ
+run_built_in_text = BUILT_IN.now
 
 -- the name of the built-in file in notices
-abbrev pub built_in_name : List ℕ
-built_in_name = codes "builtin"
+abbrev pub run_built_in_name : List ℕ
+run_built_in_name = codes "builtin"
 
 -- a text as one number: its bytes are the digits in base 256, the first byte the highest
-abbrev pub number_of_text : List ℕ → ℕ
-number_of_text bytes = fold (λ n b. n * 256 + b) 0 bytes
+abbrev pub run_text_as_number : List ℕ → ℕ
+run_text_as_number bytes = fold (λ n b. n * 256 + b) 0 bytes
 
 -- law: the text has this length, and its number has this remainder modulo the prime 2 ^ 127 - 1, so that a constant
 -- with another byte is refused
-pub record PinnedText : Type 0 where
-  pub length_is : length built_in ≡ 1057
-  pub sum : number_of_text built_in % (2 ^ 127 - 1) ≡ 28873304339660549336200513564783994945
+pub record PinnedRunText : Type 0 where
+  pub length_is : length run_built_in_text ≡ 1057
+  pub sum : run_text_as_number run_built_in_text % (2 ^ 127 - 1) ≡ 28873304339660549336200513564783994945

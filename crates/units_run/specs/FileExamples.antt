@@ -1,7 +1,7 @@
 -- Some runs over a file of a few lines, worked out by hand.
 use Rattle.std.specs.Prelude.{◌≡◌, ◌∷◌, ℕ, List, [], Some, codes}
-use Rattle.units_io.specs.FileMap.{FileMap, file_of}
-use Rattle.units_io.specs.NamedValues.{Pairs}
+use Rattle.units_io.specs.FileMap.{FileMap, file_of_name}
+use Rattle.units_io.specs.NamedValues.{NamedTexts}
 use Rattle.units_run.specs.Calls.{Run, run_of}
 use Rattle.units_run.specs.declared.status.Status.{Status}
 use Rattle.units_run.specs.declared.status.Status.TheVariants.{Done, Refused}
@@ -13,18 +13,19 @@ IsRunWith run out err status = (run.output.out ≡ out) × (run.output.err ≡ e
 -- the run of these words over a file `first.units` with this text, whatever the other files and the variables are
 abbrev pub RunGives : (words : List (List ℕ)) → (text input out err : List ℕ) → Status → Type 0
 RunGives words text input out err status =
-    (vars : Pairs) (files : FileMap) → file_of files (codes "first.units") ≡ Some text
+    (vars : NamedTexts) (files : FileMap) → file_of_name files (codes "first.units") ≡ Some text
     → IsRunWith (run_of (record { words = words; vars = vars; files = files; input = input })) out err status
 
-abbrev pub measures_text : List ℕ
-measures_text = codes "gauge[m] 1 2, 3 6\nHz 1/s\nyard 0.9144 m\nk- 1000\ns !\nm !\n"
+abbrev pub run_measures_text : List ℕ
+run_measures_text = codes "gauge[m] 1 2, 3 6\nHz 1/s\nyard 0.9144 m\nk- 1000\ns !\nm !\n"
 
-pub record FileExamples : Type 0 where
+pub record RunFileExamples : Type 0 where
   -- a conversion that succeeds, and one of units that do not conform
-  pub two_conversions : RunGives (codes "-f" ∷ codes "first.units" ∷ codes "2 km" ∷ codes " yards " ∷ []) measures_text
+  pub two_conversions : RunGives (codes "-f" ∷ codes "first.units" ∷ codes "2 km" ∷ codes " yards " ∷ [])
+      run_measures_text
       []
       (codes "\t* 2187.2266\n\t/ 0.0004572\n") [] Done
-  pub unlike : RunGives (codes "-f" ∷ codes "first.units" ∷ codes "m" ∷ codes "s" ∷ []) measures_text []
+  pub unlike : RunGives (codes "-f" ∷ codes "first.units" ∷ codes "m" ∷ codes "s" ∷ []) run_measures_text []
       (codes "conformability error\n\t1 m\n\t1 s\n") [] Refused
   -- a definition that is refused, with a notice for the file
   pub two_definitions : RunGives (codes "-f" ∷ codes "first.units" ∷ codes "feet" ∷ []) (codes "m !\nfeet\n") []

@@ -2,24 +2,27 @@
 use Rattle.std.specs.Prelude.{◌≡◌, ◌⊎◌, ℕ, List, false}
 use Rattle.std.specs.declared.option.Option.{Option}
 use Rattle.units_io.specs.FileMap.{FileMap}
-use Rattle.units_io.specs.NamedValues.{Pairs}
-use Rattle.session.specs.KnownContents.{TellsIf}
-use Rattle.units_run.specs.Needs.{needs_definitions, needs_input, opens_session}
-use Rattle.units_run.specs.Plans.{IsWhole}
+use Rattle.units_io.specs.NamedValues.{NamedTexts}
+use Rattle.session.specs.KnownContents.{IsSessionValueIfKnown}
+use Rattle.units_run.specs.Needs.{run_needs_definitions, run_needs_input, run_opens_session}
+use Rattle.units_run.specs.Plans.{IsWholePlan}
 use Rattle.units_run.specs.Work.{plan_of}
 use Rattle.units_run.specs.declared.status.Status.{Status}
 use Rattle.units_run.specs.declared.status.Status.TheVariants.{NoFile}
 
 -- with the known files, the whole run is known before any input is read
-abbrev pub IsPlannedWhole : (words : List (List ℕ)) → Pairs → (told : Option FileMap) → Type 0
+abbrev pub IsPlannedWhole : (words : List (List ℕ)) → NamedTexts → (told : Option FileMap) → Type 0
 IsPlannedWhole words vars told =
-    (files : FileMap) × TellsIf (needs_definitions words) told files × IsWhole (plan_of words vars files)
+    (files : FileMap) × IsSessionValueIfKnown (run_needs_definitions words) told files × IsWholePlan
+    (plan_of words vars files)
 
 -- a run that reads no input: its words lead neither to a session nor to a column; or there is no deck for one, as its
 -- ending says or the files show
-abbrev pub TakesNone : (words : List (List ℕ)) → Pairs → Status → (told : Option FileMap) → Type 0
-TakesNone words vars ending told = (needs_input words ≡ false) ⊎ (ending ≡ NoFile) ⊎ IsPlannedWhole words vars told
+abbrev pub RunTakesNoInput : (words : List (List ℕ)) → NamedTexts → Status → (told : Option FileMap) → Type 0
+RunTakesNoInput words vars ending told = (run_needs_input words ≡ false) ⊎ (ending ≡ NoFile) ⊎ IsPlannedWhole words vars
+    told
 
 -- a run that opens no session, and therefore stores no file
-abbrev pub OpensNone : (words : List (List ℕ)) → Pairs → Status → (told : Option FileMap) → Type 0
-OpensNone words vars ending told = (opens_session words ≡ false) ⊎ (ending ≡ NoFile) ⊎ IsPlannedWhole words vars told
+abbrev pub RunOpensNoSession : (words : List (List ℕ)) → NamedTexts → Status → (told : Option FileMap) → Type 0
+RunOpensNoSession words vars ending told = (run_opens_session words ≡ false) ⊎ (ending ≡ NoFile) ⊎ IsPlannedWhole words
+    vars told

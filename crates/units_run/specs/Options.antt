@@ -4,8 +4,8 @@ use Rattle.command_line.specs.declared.fields.CommandLine.{CommandLine}
 use Rattle.reply.specs.declared.options.Options.{Options}
 
 -- eight digits by default; `--terse` stands for four flags; a compact reply is never verbose
-unfoldable pub options_of : CommandLine → Options
-options_of line = record {
+unfoldable pub run_options : CommandLine → Options
+run_options line = record {
   digits = unwrap_or line.digits 8;
   exact = line.exact;
   strict = line.strict || line.terse;
@@ -17,13 +17,13 @@ options_of line = record {
 }
 
 -- if a number of digits is given, it is from 1 to 36
-abbrev pub HasValidDigits : CommandLine → Type 0
-HasValidDigits line = IfSome line.digits (λ n. (1 ≤ n) × (n ≤ 36))
+abbrev pub HasValidRunDigits : CommandLine → Type 0
+HasValidRunDigits line = IfSome line.digits (λ n. (1 ≤ n) × (n ≤ 36))
 
 -- if a column is given, it is from 1 to 65,535
-abbrev pub HasColumn : CommandLine → Type 0
-HasColumn line = IfSome line.column (λ n. (1 ≤ n) × (n ≤ 65535))
+abbrev pub HasValidRunColumn : CommandLine → Type 0
+HasValidRunColumn line = IfSome line.column (λ n. (1 ≤ n) × (n ≤ 65535))
 
 -- if a trial is given, it has 1 to 20,000 rounds
-abbrev pub HasRounds : CommandLine → Type 0
-HasRounds line = IfSome line.trial (λ n. (1 ≤ n) × (n ≤ 20000))
+abbrev pub HasValidRunRounds : CommandLine → Type 0
+HasValidRunRounds line = IfSome line.trial (λ n. (1 ≤ n) × (n ≤ 20000))

@@ -1,6 +1,6 @@
 -- The plans of words before any input is read: a whole run, a session that is opened, or a column to be converted.
 use Rattle.std.specs.Prelude.{ℕ, Bool, List, [], ⊤}
-use Rattle.deck.specs.Decks.{Contents}
+use Rattle.deck.specs.Decks.{DeckContents}
 use Rattle.reply.specs.declared.options.Options.{Options}
 use Rattle.session.specs.Talks.{SessionTrace}
 use Rattle.units_run.specs.declared.status.Status.{Status}
@@ -14,8 +14,8 @@ pub record WholeRun : Type 0 where
 
 -- a deck in which no name is settled, the options, FROM and TO, the number of the column, counted from 1, whether there
 -- is a header, and the bytes on `err` before the input is read
-pub record ColumnWork : Type 0 where
-  pub deck : Contents
+pub record PlannedColumnWork : Type 0 where
+  pub deck : DeckContents
   pub options : Options
   pub from : List ℕ
   pub to : List ℕ
@@ -26,14 +26,14 @@ pub record ColumnWork : Type 0 where
 pub data Plan : Type 0 where
   Whole : WholeRun → Plan
   Opened : SessionTrace → Plan
-  Columns : ColumnWork → Plan
+  Columns : PlannedColumnWork → Plan
 
 -- the whole run is known before any input is read
-abbrev pub IsWhole : Plan → Type 0
-IsWhole (Whole run) = ⊤
-IsWhole (Opened talk) = ⊥
-IsWhole (Columns work) = ⊥
+abbrev pub IsWholePlan : Plan → Type 0
+IsWholePlan (Whole run) = ⊤
+IsWholePlan (Opened talk) = ⊥
+IsWholePlan (Columns work) = ⊥
 
 -- a plan that writes a text to `err`, and nothing else
-abbrev pub complaint : (text : List ℕ) → Status → Plan
-complaint text status = Whole (record { out = []; err = text; steps = 0; status = status })
+abbrev pub complaint_plan : (text : List ℕ) → Status → Plan
+complaint_plan text status = Whole (record { out = []; err = text; steps = 0; status = status })

@@ -85,9 +85,9 @@ zincgauge[in] 1 0.002, 10 0.02, 15 0.04, \\
 ";
 
 /// Returns the definitions that are used if no file is named.
-#[tactic(auto, unfolding(crate::specs::BuiltIn::built_in))]
+#[tactic(auto, unfolding(crate::specs::BuiltIn::run_built_in_text))]
 pub(crate) fn built_in() -> &'static [u8]
-    ensures is { result.now ≡ spec.built_in }
+    ensures is { result.now ≡ spec.run_built_in_text }
     ensures short { length result.now ≤ longest_file }
 {
     BUILT_IN

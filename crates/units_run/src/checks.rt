@@ -1,15 +1,15 @@
 //! Writing the check report as it is made.
 
 ghost use Rattle.std.specs.Prelude.{◌≡◌, ◌+◌, ◌++◌, ◌||◌, if◌then◌else◌, not};
-ghost use Rattle.deck.specs.PlacedKeys.{keys_there};
+ghost use Rattle.deck.specs.PlacedKeys.{deck_keys_at_places};
 ghost use Rattle.deck.specs.Tables as tables;
 ghost use Rattle.def_lines.specs.Words.{is_empty};
-ghost use Rattle.live_table.specs.TableView.{IsAfterEvents, IsRightTable};
-ghost use Rattle.reply.specs.Options.{IsPrintable, style_of};
+ghost use Rattle.live_table.specs.TableView.{IsAfterLiveEvents, IsRightLiveView};
+ghost use Rattle.reply.specs.Options.{AreReplyOptionsPrintable, reply_style};
 ghost use Rattle.survey.specs.Checks.{check_among, check_queries, queries_among};
-ghost use Rattle.units_io.specs.Faults.{CountRose};
+ghost use Rattle.units_io.specs.Faults.{HasIoCountRisen};
 ghost use Rattle.units_run.specs.Checks as spec;
-ghost use Rattle.units_run.specs.Endings.{IsWorked};
+ghost use Rattle.units_run.specs.Endings.{IsWorkedRunEnd};
 
 use crate::check_plan::CheckPlan;
 use crate::status::Status;
@@ -29,10 +29,11 @@ pub(crate) fn write_check<O: Sink, L: Ledger>(
     out: &mut O,
     steps: &mut Steps<L>,
 ) -> Status
-    requires { IsPrintable plan.options }
-    ensures written { spec.IsReportWritten (spec.checked_report plan) result (O.written out.old) (O.written out.new) }
-    ensures steps { IsWorked result → steps.new ≡ steps.old + spec.steps_of plan }
-    ensures write { result ≡ Status.WriteFault → CountRose (O.faults out.old) (O.faults out.new) }
+    requires { AreReplyOptionsPrintable plan.options }
+    ensures written { spec.IsRunReportWritten (spec.planned_check_report plan) result (O.written out.old)
+        (O.written out.new) }
+    ensures steps { IsWorkedRunEnd result → steps.new ≡ steps.old + spec.planned_check_steps plan }
+    ensures write { result ≡ Status.WriteFault → HasIoCountRisen (O.faults out.old) (O.faults out.new) }
 {
     leaves_law();
     let mut plan = plan;
@@ -49,12 +50,13 @@ impl CheckPlan {
         out: &mut O,
         steps: &mut Steps<L>,
     ) -> Status
-        requires { IsPrintable self.old.options }
-        ensures written { spec.IsReportWritten (spec.checked_report self.old) result
+        requires { AreReplyOptionsPrintable self.old.options }
+        ensures written { spec.IsRunReportWritten (spec.planned_check_report self.old) result
             (O.written out.old) (O.written out.new) }
-        ensures queries { IsWorked result → IsAfterEvents (check_queries (tables.table self.old.table.deck))
+        ensures queries { IsWorkedRunEnd result
+            → IsAfterLiveEvents (check_queries (tables.table_of_deck self.old.table.deck))
             self.old.table self.new.table steps.old steps.new }
-        ensures write { result ≡ Status.WriteFault → CountRose (O.faults out.old) (O.faults out.new) }
+        ensures write { result ≡ Status.WriteFault → HasIoCountRisen (O.faults out.old) (O.faults out.new) }
     {
         let Ok(places) = check_places(alloc, &mut self.table, steps) else {
             return Status::NoMemory;
@@ -72,16 +74,17 @@ impl CheckPlan {
         out: &mut O,
         steps: &mut Steps<L>,
     ) -> Status
-        requires printable { IsPrintable self.old.options }
-        requires right { IsRightTable self.old.table }
-        ensures written { spec.IsReportWritten (self.old.notices.items
-            ++ check_among (tables.table self.old.table.deck) (style_of self.old.options)
-            (keys_there self.old.table.deck.lines places.now)) result
+        requires printable { AreReplyOptionsPrintable self.old.options }
+        requires right { IsRightLiveView self.old.table }
+        ensures written { spec.IsRunReportWritten (self.old.notices.items
+            ++ check_among (tables.table_of_deck self.old.table.deck) (reply_style self.old.options)
+            (deck_keys_at_places self.old.table.deck.lines places.now)) result
             (O.written out.old) (O.written out.new) }
-        ensures queries { IsWorked result → IsAfterEvents
-            (queries_among (tables.table self.old.table.deck) (keys_there self.old.table.deck.lines places.now))
+        ensures queries { IsWorkedRunEnd result → IsAfterLiveEvents
+            (queries_among (tables.table_of_deck self.old.table.deck)
+            (deck_keys_at_places self.old.table.deck.lines places.now))
             self.old.table self.new.table steps.old steps.new }
-        ensures write { result ≡ Status.WriteFault → CountRose (O.faults out.old) (O.faults out.new) }
+        ensures write { result ≡ Status.WriteFault → HasIoCountRisen (O.faults out.old) (O.faults out.new) }
     {
         let lines = &mut self.notices;
         let table = &mut self.table;

@@ -1,10 +1,10 @@
 //! The conversion of a column.
 
 ghost use Rattle.std.specs.Prelude.{◌≡◌, ◌≤◌, ◌⊎◌, [], List, ℕ, Some};
-ghost use Rattle.reply.specs.Options.{IsPrintable};
-ghost use Rattle.session.specs.Outside.{TookMoreThan};
-ghost use Rattle.units_io.specs.Bytes.{known_append};
-ghost use Rattle.units_io.specs.Faults.{CountRose};
+ghost use Rattle.reply.specs.Options.{AreReplyOptionsPrintable};
+ghost use Rattle.session.specs.Outside.{SessionTookMoreThan};
+ghost use Rattle.units_io.specs.Bytes.{sink_bytes_append};
+ghost use Rattle.units_io.specs.Faults.{HasIoCountRisen};
 ghost use Rattle.units_run.specs.Endings as spec;
 ghost use Rattle.units_run.specs.ProgramPlans as planning;
 
@@ -27,19 +27,21 @@ impl ColumnPlan {
         err: &mut E,
         steps: &mut Steps<L>,
     ) -> Status
-        requires { IsPrintable self.task.options × (1 ≤ self.task.column) }
-        ensures told { planning.IsColumnConverted self result
-            (planning.ends_of (S.left src.old) (O.written out.old) (E.written err.old) steps.old)
-            (planning.ends_of (S.left src.new) (O.written out.new) (E.written err.new) steps.new) }
+        requires { AreReplyOptionsPrintable self.task.options × (1 ≤ self.task.column) }
+        ensures told { planning.IsColumnPlanConverted self result
+            (planning.run_ends (S.left src.old) (O.written out.old) (E.written err.old) steps.old)
+            (planning.run_ends (S.left src.new) (O.written out.new) (E.written err.new) steps.new) }
         ensures noticed { ((src.new ≡ src.old) × (out.new ≡ out.old))
-            ⊎ (E.written err.new ≡ known_append (E.written err.old) self.notices.items) }
-        ensures ends { spec.IsStated result → spec.IsWorked result }
-        ensures whole { (input : List ℕ) → S.left src.old ≡ Some input → spec.IsWorked result →
+            ⊎ (E.written err.new ≡ sink_bytes_append (E.written err.old) self.notices.items) }
+        ensures ends { spec.IsStatedRunEnd result → spec.IsWorkedRunEnd result }
+        ensures whole { (input : List ℕ) → S.left src.old ≡ Some input → spec.IsWorkedRunEnd result →
             S.left src.new ≡ Some [] }
-        ensures read { result ≡ Status.ReadFault → CountRose (S.faults src.old) (S.faults src.new) }
+        ensures read { result ≡ Status.ReadFault → HasIoCountRisen (S.faults src.old) (S.faults src.new) }
         ensures write { result ≡ Status.WriteFault →
-            CountRose (O.faults out.old) (O.faults out.new) ⊎ CountRose (E.faults err.old) (E.faults err.new) }
-        ensures too_long { result ≡ Status.InputTooLong → TookMoreThan 16777216 (S.taken src.old) (S.taken src.new) }
+            HasIoCountRisen (O.faults out.old) (O.faults out.new)
+            ⊎ HasIoCountRisen (E.faults err.old) (E.faults err.new) }
+        ensures too_long { result ≡ Status.InputTooLong
+            → SessionTookMoreThan 16777216 (S.taken src.old) (S.taken src.new) }
     {
         leaves_law();
         let mut plan = self;
@@ -54,7 +56,7 @@ impl ColumnPlan {
 
 // Returns the status for the end of a column conversion.
 fn status_of(end: ColumnEnd) -> Status
-    ensures { result ≡ spec.column_status end }
+    ensures { result ≡ spec.run_status_of_column_end end }
 {
     match end {
         ColumnEnd::Done => Status::Done,

@@ -1,8 +1,8 @@
 //! The reply to FROM and TO on a command line.
 ghost use Rattle.deck.specs.Tables as tables;
-ghost use Rattle.reply.specs.Options.{IsPrintable};
+ghost use Rattle.reply.specs.Options.{AreReplyOptionsPrintable};
 ghost use Rattle.units_run.specs.CommandReply as spec;
-ghost use Rattle.units_run.specs.ProgramPlans.{IsReplyOf};
+ghost use Rattle.units_run.specs.ProgramPlans.{IsRunReplyOf};
 
 use live_table::LiveTable;
 use reply::{Question, Reply, convert_reply, definition_reply};
@@ -18,9 +18,9 @@ pub(crate) fn ask<L: Ledger>(
     question: &Question<'_>,
     steps: &mut Steps<L>,
 ) -> Result<Reply, AllocError>
-    requires { IsPrintable question.now.options.now }
-    ensures { IsReplyOf (spec.asked_for (tables.table table.old.deck) question.now.options.now question.now.from.now
-        question.now.to.now) result table.old table.new steps.old steps.new }
+    requires { AreReplyOptionsPrintable question.now.options.now }
+    ensures { IsRunReplyOf (spec.run_reply_for (tables.table_of_deck table.old.deck) question.now.options.now
+        question.now.from.now question.now.to.now) result table.old table.new steps.old steps.new }
 {
     let Question { options, from, to } = *question;
     if to.is_empty() {

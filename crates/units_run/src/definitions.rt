@@ -17,7 +17,7 @@ pub(crate) fn settings_of(
     line: &CommandLine,
     vars: &Vars,
 ) -> Result<Settings, AllocError>
-    ensures { IfOk result (λ s. s ≡ settings.settings_of line.now vars.now) }
+    ensures { IfOk result (λ s. s ≡ settings.run_settings line.now vars.now) }
 {
     let locale = match &line.locale {
         Some(locale) => locale.copy(alloc)?,
@@ -29,7 +29,7 @@ pub(crate) fn settings_of(
 
 /// Returns the deck of the built-in text.
 pub(crate) fn built_in_deck(alloc: Global, settings: Settings) -> Result<Deck, AllocError>
-    ensures { IfOk result (λ deck. deck ≡ definitions.built_in_deck settings) }
+    ensures { IfOk result (λ deck. deck ≡ definitions.run_built_in_deck settings) }
 {
     text_deck(alloc, built_in(), b"builtin", settings)
 }

@@ -1,9 +1,9 @@
 //! Laws about the words of a run, and examples. The functions do nothing: the contract of each is the law.
 
-ghost use Rattle.units_run.specs.BuiltIn.{PinnedText};
+ghost use Rattle.units_run.specs.BuiltIn.{PinnedRunText};
 ghost use Rattle.units_run.specs.Examples.{RunExamples};
-ghost use Rattle.units_run.specs.FileExamples.{FileExamples};
-ghost use Rattle.units_run.specs.Laws.{EndingLaw, NeedLaws, StatusLaw};
+ghost use Rattle.units_run.specs.FileExamples.{RunFileExamples};
+ghost use Rattle.units_run.specs.Laws.{RunEndingLaw, RunNeedLaws, RunStatusLaw};
 
 use command_line::{refused_examples, taken_examples};
 use deck::key_lists_are_one;
@@ -11,22 +11,22 @@ use reply::grant_examples_law;
 
 /// Files and input that the words do not need make no difference.
 pub fn need_laws()
-    ensures { NeedLaws }
+    ensures { RunNeedLaws }
 {}
 
 /// A run ends in one of the ways that its words allow.
 pub fn ending_law()
-    ensures { EndingLaw }
+    ensures { RunEndingLaw }
 {}
 
 /// Words that need neither files nor input end with the status of their run, even if no contents are known.
 pub fn status_law()
-    ensures { StatusLaw }
+    ensures { RunStatusLaw }
 {}
 
 /// The length and a checksum of the built-in text.
 pub fn built_in_is_pinned()
-    ensures { PinnedText }
+    ensures { PinnedRunText }
 {}
 
 /// Some words and the runs that they lead to.
@@ -39,7 +39,7 @@ pub fn run_examples()
 
 /// Some runs over a file of a few lines, from the words to the bytes written.
 pub fn file_examples()
-    ensures { FileExamples }
+    ensures { RunFileExamples }
 {
     taken_examples();
     key_lists_are_one();

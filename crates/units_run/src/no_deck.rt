@@ -1,10 +1,10 @@
 //! Runs over a file that gives no deck.
 ghost use Rattle.std.specs.Prelude.{◌≡◌, ℕ, Bool, true, IfOk, IsErrOf};
 ghost use Rattle.units_io.specs.FileMap.{FileMap};
-ghost use Rattle.deck.specs.FileLoads.{MayFail};
+ghost use Rattle.deck.specs.FileLoads.{MayDeckLoadFailWith};
 ghost use Rattle.units_run.specs.Definitions as spec;
-ghost use Rattle.units_run.specs.ProgramPlans.{IsFor, IsPlanned};
-ghost use Rattle.units_run.specs.Plans.{complaint};
+ghost use Rattle.units_run.specs.ProgramPlans.{IsPlanned, IsPossiblePlan};
+ghost use Rattle.units_run.specs.Plans.{complaint_plan};
 
 use crate::halt::Halt;
 use crate::plan::Plan;
@@ -16,9 +16,9 @@ use std::alloc::{AllocError, Global};
 /// memory ran out.
 pub(crate) fn no_deck_plan(alloc: Global, fault: &DeckFault, name: &[u8]) -> Result<Plan, Halt>
     ensures told { (m : FileMap) (n : ℕ) →
-        IsPlanned (complaint (spec.no_deck_line fault.now name.now) Status.NoFile) m result n n }
-    ensures kind { (session column : Bool) → IfOk result (IsFor true true session column) }
-    ensures fault { IfOk result (λ plan. MayFail fault.now → ⊥) }
+        IsPlanned (complaint_plan (spec.no_deck_run_line fault.now name.now) Status.NoFile) m result n n }
+    ensures kind { (session column : Bool) → IfOk result (IsPossiblePlan true true session column) }
+    ensures fault { IfOk result (λ plan. MayDeckLoadFailWith fault.now → ⊥) }
     ensures cause { IsErrOf result Halt.ReadFault → fault.now ≡ DeckFault.ReadFailed }
 {
     match fault {
@@ -31,8 +31,8 @@ pub(crate) fn no_deck_plan(alloc: Global, fault: &DeckFault, name: &[u8]) -> Res
 // Returns the plan with the line for `err`.
 fn no_deck_complaint(alloc: Global, fault: &DeckFault, name: &[u8]) -> Result<Plan, AllocError>
     ensures told { (m : FileMap) (n : ℕ) →
-        IsPlanned (complaint (spec.no_deck_line fault.now name.now) Status.NoFile) m result n n }
-    ensures kind { (session column : Bool) → IfOk result (IsFor true true session column) }
+        IsPlanned (complaint_plan (spec.no_deck_run_line fault.now name.now) Status.NoFile) m result n n }
+    ensures kind { (session column : Bool) → IfOk result (IsPossiblePlan true true session column) }
 {
     let mut text = Vec::from_slice(alloc, no_deck(fault))?;
     text.extend_from_slice(name)?;
@@ -42,7 +42,7 @@ fn no_deck_complaint(alloc: Global, fault: &DeckFault, name: &[u8]) -> Result<Pl
 
 // Returns the reason why there is no deck.
 fn no_deck(fault: &DeckFault) -> &'static [u8]
-    ensures { result.now ≡ spec.no_deck fault.now }
+    ensures { result.now ≡ spec.no_deck_run_reason fault.now }
 {
     match fault {
         DeckFault::TooLong => b"units: file too long: ".as_slice(),

@@ -1,17 +1,17 @@
 //! The options for replies, from the command line.
 ghost use Rattle.std.specs.Prelude.{◌≡◌};
-ghost use Rattle.reply.specs.Options.{IsPrintable};
+ghost use Rattle.reply.specs.Options.{AreReplyOptionsPrintable};
 ghost use Rattle.units_run.specs.Options as spec;
 
 use command_line::CommandLine;
 use reply::Options;
 
 /// Returns the options of a command line.
-#[tactic(auto, unfolding(crate::specs::Options::options_of))]
+#[tactic(auto, unfolding(crate::specs::Options::run_options))]
 pub(crate) fn options_of(line: &CommandLine) -> Options
-    requires { spec.HasValidDigits line.now }
-    ensures is { result ≡ spec.options_of line.now }
-    ensures printable { IsPrintable result }
+    requires { spec.HasValidRunDigits line.now }
+    ensures is { result ≡ spec.run_options line.now }
+    ensures printable { AreReplyOptionsPrintable result }
 {
     let compact = line.compact || line.terse;
     Options {

@@ -1,8 +1,8 @@
 //! The plan that the words lead to before any input is read.
 ghost use Rattle.std.specs.Prelude.{◌≡◌, ◌||◌, ℕ, Bool, true, IfOk};
 ghost use Rattle.units_io.specs.FileMap.{FileMap};
-ghost use Rattle.units_run.specs.Endings.{MayEnd};
-ghost use Rattle.units_run.specs.ProgramPlans.{IsFor, IsPlanned};
+ghost use Rattle.units_run.specs.Endings.{RunMayEnd};
+ghost use Rattle.units_run.specs.ProgramPlans.{IsPlanned, IsPossiblePlan};
 ghost use Rattle.units_run.specs.Plans as spec;
 
 use crate::check_plan::CheckPlan;
@@ -27,9 +27,9 @@ pub(crate) enum Plan {
 impl Plan {
     /// Returns the plan that writes a text to `err`, and nothing else.
     pub(crate) fn complaint(alloc: Global, text: &[u8], status: Status) -> Result<Plan, AllocError>
-        ensures told { (m : FileMap) (n : ℕ) → IsPlanned (spec.complaint text.now status) m result n n }
+        ensures told { (m : FileMap) (n : ℕ) → IsPlanned (spec.complaint_plan text.now status) m result n n }
         ensures kind { (taken file session column : Bool) → ((session || column) ≡ true → status ≡ Status.NoFile) →
-            MayEnd taken file session status → IfOk result (IsFor taken file session column) }
+            RunMayEnd taken file session status → IfOk result (IsPossiblePlan taken file session column) }
     {
         let said = Said {
             out: Vec::new(alloc),

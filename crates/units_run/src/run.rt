@@ -1,16 +1,16 @@
 //! The run of the program.
 ghost use Rattle.std.specs.Prelude.{◌≡◌, ◌⊎◌, ℕ, List, Some, false};
 ghost use Rattle.units_run.specs.Endings as endings;
-ghost use Rattle.units_run.specs.GrantedConversions.{GrantsExactly};
+ghost use Rattle.units_run.specs.GrantedConversions.{RunGrantsExactly};
 ghost use Rattle.units_run.specs.Headline as spec;
-ghost use Rattle.units_run.specs.LeftAlone.{OpensNone, TakesNone};
-ghost use Rattle.units_run.specs.Needs.{needs_definitions, needs_files};
+ghost use Rattle.units_run.specs.LeftAlone.{RunOpensNoSession, RunTakesNoInput};
+ghost use Rattle.units_run.specs.Needs.{run_needs_definitions, run_needs_files};
 ghost use Rattle.units_run.specs.Openings as openings;
 ghost use Rattle.units_run.specs.Work.{plan_of};
-ghost use Rattle.session.specs.HeardLines.{NamesNoFile};
-ghost use Rattle.session.specs.Outside.{GrowsAtLeast};
-ghost use Rattle.session.specs.KnownContents.{TellsIf};
-ghost use Rattle.session.specs.Worlds.{files_seen, sink_of, source_of, world_of};
+ghost use Rattle.session.specs.HeardLines.{HeardInputNamesNoFile};
+ghost use Rattle.session.specs.Outside.{SessionSinkGrowsAtLeast};
+ghost use Rattle.session.specs.KnownContents.{IsSessionValueIfKnown};
+ghost use Rattle.session.specs.Worlds.{session_files_seen, session_sink, session_source, session_world};
 ghost use Rattle.units_io.specs.FileMap.{FileMap};
 
 use crate::checks::write_check;
@@ -54,25 +54,25 @@ pub fn units_main<S: Source, O: Sink, E: Sink, F: Files, L: Ledger>(
     steps: &mut Steps<L>,
 ) -> Status
     ensures run { spec.IsRun words.now vars.now result
-        (world_of (source_of (S.left src.old) (S.taken src.old) (S.faults src.old))
-        (sink_of (O.written out.old) (O.faults out.old)) (sink_of (E.written err.old) (E.faults err.old))
-        (files_seen (F.files files.old) (F.faults files.old) (F.store_faults files.old)) steps.old)
-        (world_of (source_of (S.left src.new) (S.taken src.new) (S.faults src.new))
-        (sink_of (O.written out.new) (O.faults out.new)) (sink_of (E.written err.new) (E.faults err.new))
-        (files_seen (F.files files.new) (F.faults files.new) (F.store_faults files.new)) steps.new) }
-    ensures source { TakesNone words.now vars.now result (F.files files.old) → src.new ≡ src.old }
-    ensures granted { GrantsExactly words.now vars.now result (F.files files.old)
+        (session_world (session_source (S.left src.old) (S.taken src.old) (S.faults src.old))
+        (session_sink (O.written out.old) (O.faults out.old)) (session_sink (E.written err.old) (E.faults err.old))
+        (session_files_seen (F.files files.old) (F.faults files.old) (F.store_faults files.old)) steps.old)
+        (session_world (session_source (S.left src.new) (S.taken src.new) (S.faults src.new))
+        (session_sink (O.written out.new) (O.faults out.new)) (session_sink (E.written err.new) (E.faults err.new))
+        (session_files_seen (F.files files.new) (F.faults files.new) (F.store_faults files.new)) steps.new) }
+    ensures source { RunTakesNoInput words.now vars.now result (F.files files.old) → src.new ≡ src.old }
+    ensures granted { RunGrantsExactly words.now vars.now result (F.files files.old)
         (O.written out.old) (O.written out.new) }
-    ensures opened { (m : FileMap) → TellsIf (needs_definitions words.now) (F.files files.old) m →
-        (src.new ≡ src.old) ⊎ openings.IsOpened (plan_of words.now vars.now m) (O.written out.old) (O.written out.new)
-        (E.written err.old) (E.written err.new) }
-    ensures order { (m : FileMap) → TellsIf (needs_definitions words.now) (F.files files.old) m →
-        (out.new ≡ out.old) ⊎ GrowsAtLeast (E.written err.old) (E.written err.new)
-        (openings.first_on_err (plan_of words.now vars.now m)) }
-    ensures unasked { needs_files words.now ≡ false → files.new ≡ files.old }
-    ensures unnamed { (input : List ℕ) → S.left src.old ≡ Some input → needs_definitions words.now ≡ false →
-        NamesNoFile input → files.new ≡ files.old }
-    ensures unread { OpensNone words.now vars.now result (F.files files.old) →
+    ensures opened { (m : FileMap) → IsSessionValueIfKnown (run_needs_definitions words.now) (F.files files.old) m →
+        (src.new ≡ src.old) ⊎ openings.IsPlanOpened (plan_of words.now vars.now m) (O.written out.old)
+        (O.written out.new) (E.written err.old) (E.written err.new) }
+    ensures order { (m : FileMap) → IsSessionValueIfKnown (run_needs_definitions words.now) (F.files files.old) m →
+        (out.new ≡ out.old) ⊎ SessionSinkGrowsAtLeast (E.written err.old) (E.written err.new)
+        (openings.first_plan_text_on_err (plan_of words.now vars.now m)) }
+    ensures unasked { run_needs_files words.now ≡ false → files.new ≡ files.old }
+    ensures unnamed { (input : List ℕ) → S.left src.old ≡ Some input → run_needs_definitions words.now ≡ false →
+        HeardInputNamesNoFile input → files.new ≡ files.old }
+    ensures unread { RunOpensNoSession words.now vars.now result (F.files files.old) →
         (F.faults files.new ≡ F.faults files.old) ⊎ ((src.new ≡ src.old) × (out.new ≡ out.old) × (err.new ≡ err.old)) }
 {
     grant_law();
@@ -96,7 +96,7 @@ pub fn units_main<S: Source, O: Sink, E: Sink, F: Files, L: Ledger>(
 
 // Returns the status for the end of a session.
 fn status_of(end: SessionEnd) -> Status
-    ensures { result ≡ endings.status_of end }
+    ensures { result ≡ endings.run_status_of_session_end end }
 {
     match end {
         SessionEnd::Done => Status::Done,

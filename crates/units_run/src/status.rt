@@ -1,6 +1,6 @@
 //! The status of a run.
 ghost use Rattle.std.specs.Prelude.{◌≡◌};
-ghost use Rattle.units_run.specs.Endings.{code_of};
+ghost use Rattle.units_run.specs.Endings.{run_status_code};
 
 /// How a run ended.
 #[derive(Clone, Copy, Debug, PartialEq, Eq)]
@@ -26,7 +26,7 @@ pub enum Status {
 impl Status {
     /// Returns the exit status of the process.
     pub fn code(self) -> u8
-        ensures { result ≡ code_of self }
+        ensures { result ≡ run_status_code self }
     {
         match self {
             Status::Done => 0,

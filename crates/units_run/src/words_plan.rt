@@ -1,15 +1,15 @@
 //! From the words to a plan.
 ghost use Rattle.std.specs.Prelude.{◌≡◌, ◌≤◌, ◌&&◌, ◌||◌, IfOk, IsErrOf, OnOk, Some, true, false, is_some, not};
 ghost use Rattle.units_io.specs.FileMap.{FileMap};
-ghost use Rattle.units_io.specs.Faults.{CountRose};
-ghost use Rattle.command_line.specs.AcceptedWords.{are_taken};
+ghost use Rattle.units_io.specs.Faults.{HasIoCountRisen};
+ghost use Rattle.command_line.specs.AcceptedWords.{are_command_words_accepted};
 ghost use Rattle.command_line.specs.Fields.{command_line_of};
-ghost use Rattle.session.specs.KnownContents.{TellsIf};
+ghost use Rattle.session.specs.KnownContents.{IsSessionValueIfKnown};
 ghost use Rattle.session.specs.Trials.{trial_session};
-ghost use Rattle.units_run.specs.Needs.{converts_column, is_column, is_session, loads_file, needs_definitions};
-ghost use Rattle.units_run.specs.Needs.{needs_files, opens_session};
+ghost use Rattle.units_run.specs.Needs.{is_run_of_column, is_run_of_session, run_converts_column, run_loads_file};
+ghost use Rattle.units_run.specs.Needs.{run_needs_definitions, run_needs_files, run_opens_session};
 ghost use Rattle.units_run.specs.Options as options;
-ghost use Rattle.units_run.specs.ProgramPlans.{IsFor, IsPlanned};
+ghost use Rattle.units_run.specs.ProgramPlans.{IsPlanned, IsPossiblePlan};
 ghost use Rattle.units_run.specs.Settings as settings;
 ghost use Rattle.units_run.specs.Work as spec;
 
@@ -35,17 +35,17 @@ pub(crate) fn make_plan<F: Files, L: Ledger>(
     files: &mut F,
     steps: &mut Steps<L>,
 ) -> Result<Plan, Halt>
-    ensures told { (m : FileMap) → TellsIf (needs_definitions words.now) (F.files files.old) m →
+    ensures told { (m : FileMap) → IsSessionValueIfKnown (run_needs_definitions words.now) (F.files files.old) m →
         IsPlanned (spec.plan_of words.now vars.now m) m result steps.old steps.new }
     ensures kind { IfOk result
-        (IsFor (are_taken words.now) (loads_file (command_line_of words.now)) (opens_session words.now)
-        (converts_column words.now)) }
+        (IsPossiblePlan (are_command_words_accepted words.now) (run_loads_file (command_line_of words.now))
+        (run_opens_session words.now) (run_converts_column words.now)) }
     ensures calm { OnOk result (F.faults files.new ≡ F.faults files.old) }
-    ensures cause { IsErrOf result Halt.ReadFault → CountRose (F.faults files.old) (F.faults files.new) }
+    ensures cause { IsErrOf result Halt.ReadFault → HasIoCountRisen (F.faults files.old) (F.faults files.new) }
     ensures kept { F.files files.new ≡ F.files files.old }
     ensures stores { F.store_faults files.new ≡ F.store_faults files.old }
-    ensures unasked { needs_files words.now ≡ false → files.new ≡ files.old }
-    ensures unloaded { needs_definitions words.now ≡ false → files.new ≡ files.old }
+    ensures unasked { run_needs_files words.now ≡ false → files.new ≡ files.old }
+    ensures unloaded { run_needs_definitions words.now ≡ false → files.new ≡ files.old }
 {
     match read_words(alloc, words) {
         Ok(line) => line_plan(alloc, &line, vars, files, steps),
@@ -62,17 +62,18 @@ fn line_plan<F: Files, L: Ledger>(
     files: &mut F,
     steps: &mut Steps<L>,
 ) -> Result<Plan, Halt>
-    requires digits { options.HasValidDigits line.now }
-    requires rounds { options.HasRounds line.now }
-    requires column { options.HasColumn line.now }
-    ensures told { (m : FileMap) → TellsIf (loads_file line.now) (F.files files.old) m →
+    requires digits { options.HasValidRunDigits line.now }
+    requires rounds { options.HasValidRunRounds line.now }
+    requires column { options.HasValidRunColumn line.now }
+    ensures told { (m : FileMap) → IsSessionValueIfKnown (run_loads_file line.now) (F.files files.old) m →
         IsPlanned (spec.line_plan line.now vars.now m) m result steps.old steps.new }
-    ensures kind { IfOk result (IsFor true (loads_file line.now) (is_session line.now) (is_column line.now)) }
+    ensures kind { IfOk result
+        (IsPossiblePlan true (run_loads_file line.now) (is_run_of_session line.now) (is_run_of_column line.now)) }
     ensures calm { OnOk result (F.faults files.new ≡ F.faults files.old) }
-    ensures cause { IsErrOf result Halt.ReadFault → CountRose (F.faults files.old) (F.faults files.new) }
+    ensures cause { IsErrOf result Halt.ReadFault → HasIoCountRisen (F.faults files.old) (F.faults files.new) }
     ensures kept { F.files files.new ≡ F.files files.old }
     ensures stores { F.store_faults files.new ≡ F.store_faults files.old }
-    ensures unasked { loads_file line.now ≡ false → files.new ≡ files.old }
+    ensures unasked { run_loads_file line.now ≡ false → files.new ≡ files.old }
 {
     let settings = settings_of(alloc, line, vars)?;
     match line.trial {
@@ -89,13 +90,13 @@ fn trial_plan<L: Ledger>(
     rounds: u16,
     steps: &mut Steps<L>,
 ) -> Result<Plan, AllocError>
-    requires digits { options.HasValidDigits line.now }
+    requires digits { options.HasValidRunDigits line.now }
     requires some { 1 ≤ rounds }
     requires few { rounds ≤ 20000 }
     ensures told { (m : FileMap) →
-        IsPlanned (spec.trial_plan (trial_session (options.options_of line.now) settings rounds)) m result steps.old
+        IsPlanned (spec.trial_plan (trial_session (options.run_options line.now) settings rounds)) m result steps.old
         steps.new }
-    ensures kind { IfOk result (IsFor true false false false) }
+    ensures kind { IfOk result (IsPossiblePlan true false false false) }
 {
     let text = run_trial(alloc, options_of(line), settings, rounds, steps)?;
     let said = Said {
@@ -113,15 +114,15 @@ fn deck_plan<F: Files, L: Ledger>(
     files: &mut F,
     steps: &mut Steps<L>,
 ) -> Result<Plan, Halt>
-    requires digits { options.HasValidDigits line.now }
-    requires column { options.HasColumn line.now }
-    ensures told { (m : FileMap) → TellsIf (is_some line.now.file) (F.files files.old) m →
+    requires digits { options.HasValidRunDigits line.now }
+    requires column { options.HasValidRunColumn line.now }
+    ensures told { (m : FileMap) → IsSessionValueIfKnown (is_some line.now.file) (F.files files.old) m →
         IsPlanned (spec.deck_plan line.now.file line.now settings m) m result steps.old steps.new }
     ensures kind { IfOk result
-        (IsFor true (is_some line.now.file) (not (is_some line.now.from || line.now.check))
+        (IsPossiblePlan true (is_some line.now.file) (not (is_some line.now.from || line.now.check))
         (is_some line.now.from && is_some line.now.column)) }
     ensures calm { OnOk result (F.faults files.new ≡ F.faults files.old) }
-    ensures cause { IsErrOf result Halt.ReadFault → CountRose (F.faults files.old) (F.faults files.new) }
+    ensures cause { IsErrOf result Halt.ReadFault → HasIoCountRisen (F.faults files.old) (F.faults files.new) }
     ensures kept { F.files files.new ≡ F.files files.old }
     ensures stores { F.store_faults files.new ≡ F.store_faults files.old }
     ensures unasked { is_some line.now.file ≡ false → files.new ≡ files.old }

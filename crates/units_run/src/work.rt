@@ -1,13 +1,12 @@
 //! Work on a deck: the reply to FROM, the check, or a session.
 ghost use Rattle.std.specs.Prelude.{◌≡◌, ◌≤◌, ◌&&◌, ◌||◌, ℕ, [], IfOk, Some, None, true, false, is_some, not};
-ghost use Rattle.std.specs.Prelude.{unwrap_or};
-ghost use Rattle.std.specs.Prelude.{if◌then◌else◌};
+ghost use Rattle.std.specs.Prelude.{unwrap_or, if◌then◌else◌};
 ghost use Rattle.units_io.specs.FileMap.{FileMap};
 ghost use Rattle.def_lines.specs.Lines.{line_content};
 ghost use Rattle.session.specs.Queries as queries;
-ghost use Rattle.units_run.specs.Endings.{MayEnd};
-ghost use Rattle.units_run.specs.Options.{HasColumn, HasValidDigits};
-ghost use Rattle.units_run.specs.ProgramPlans.{IsFor, IsPlanned};
+ghost use Rattle.units_run.specs.Endings.{RunMayEnd};
+ghost use Rattle.units_run.specs.Options.{HasValidRunColumn, HasValidRunDigits};
+ghost use Rattle.units_run.specs.ProgramPlans.{IsPlanned, IsPossiblePlan};
 ghost use Rattle.units_run.specs.Work as spec;
 
 use crate::check_plan::CheckPlan;
@@ -37,11 +36,11 @@ pub(crate) fn work<L: Ledger>(
     deck: Deck,
     steps: &mut Steps<L>,
 ) -> Result<Plan, AllocError>
-    requires digits { HasValidDigits line.now }
-    requires column { HasColumn line.now }
+    requires digits { HasValidRunDigits line.now }
+    requires column { HasValidRunColumn line.now }
     ensures told { (m : FileMap) →
-        IsPlanned (spec.work_by line.now.from line.now deck m) m result steps.old steps.new }
-    ensures kind { IfOk result (IsFor true false (not (is_some line.now.from || line.now.check))
+        IsPlanned (spec.plan_of_work line.now.from line.now deck m) m result steps.old steps.new }
+    ensures kind { IfOk result (IsPossiblePlan true false (not (is_some line.now.from || line.now.check))
         (is_some line.now.from && is_some line.now.column)) }
 {
     let mut table = LiveTable::new(alloc, deck);
@@ -71,13 +70,13 @@ fn reply_plan<L: Ledger>(
     table: &mut LiveTable,
     steps: &mut Steps<L>,
 ) -> Result<Plan, AllocError>
-    requires digits { HasValidDigits line.now }
-    requires fresh { table.old ≡ queries.fresh_table table.old.deck }
+    requires digits { HasValidRunDigits line.now }
+    requires fresh { table.old ≡ queries.fresh_session_table table.old.deck }
     ensures told { (m : FileMap) → IsPlanned
         (spec.from_plan None line.now (line_content from.now) (line_content (unwrap_or line.now.to [])) table.old.deck)
         m result
         steps.old steps.new }
-    ensures kind { IfOk result (IsFor true false false false) }
+    ensures kind { IfOk result (IsPossiblePlan true false false false) }
 {
     leaves_law();
     let notices = notice_lines(alloc, table.deck())?;
@@ -104,13 +103,13 @@ fn column_plan(
     from: &[u8],
     table: LiveTable,
 ) -> Result<Plan, AllocError>
-    requires digits { HasValidDigits line.now }
+    requires digits { HasValidRunDigits line.now }
     requires some { 1 ≤ column }
-    requires fresh { table ≡ queries.fresh_table table.deck }
+    requires fresh { table ≡ queries.fresh_session_table table.deck }
     ensures told { (m : FileMap) (n : ℕ) → IsPlanned
         (spec.from_plan (Some column) line.now (line_content from.now) (line_content (unwrap_or line.now.to []))
         table.deck) m result n n }
-    ensures kind { IfOk result (IsFor true false false true) }
+    ensures kind { IfOk result (IsPossiblePlan true false false true) }
 {
     let notices = notice_lines(alloc, table.deck())?;
     let from = Text::from_bytes(alloc, line_content(from))?;
@@ -128,10 +127,10 @@ fn column_plan(
 
 // Returns the plan of the check report, which begins with the notices.
 fn check_plan(alloc: Global, line: &CommandLine, table: LiveTable) -> Result<Plan, AllocError>
-    requires digits { HasValidDigits line.now }
-    requires fresh { table ≡ queries.fresh_table table.deck }
+    requires digits { HasValidRunDigits line.now }
+    requires fresh { table ≡ queries.fresh_session_table table.deck }
     ensures told { (m : FileMap) (n : ℕ) → IsPlanned (spec.plan_of_check line.now table.deck) m result n n }
-    ensures kind { IfOk result (IsFor true false false false) }
+    ensures kind { IfOk result (IsPossiblePlan true false false false) }
 {
     let notices = notice_lines(alloc, table.deck())?;
     Ok(Plan::Check(CheckPlan {
@@ -143,10 +142,10 @@ fn check_plan(alloc: Global, line: &CommandLine, table: LiveTable) -> Result<Pla
 
 // Returns the plan of a session over a table in which no name is settled.
 fn session_plan(alloc: Global, line: &CommandLine, table: LiveTable) -> Result<Plan, AllocError>
-    requires digits { HasValidDigits line.now }
-    requires fresh { table ≡ queries.fresh_table table.deck }
-    ensures told { (m : FileMap) (n : ℕ) → IsPlanned (spec.opened_over line.now table.deck m) m result n n }
-    ensures kind { IfOk result (IsFor true false true false) }
+    requires digits { HasValidRunDigits line.now }
+    requires fresh { table ≡ queries.fresh_session_table table.deck }
+    ensures told { (m : FileMap) (n : ℕ) → IsPlanned (spec.plan_of_session line.now table.deck m) m result n n }
+    ensures kind { IfOk result (IsPossiblePlan true false true false) }
 {
     let session = Session::new(alloc, table, options_of(line));
     let said = Said::opening_output(alloc, &session)?;
@@ -166,7 +165,7 @@ fn to_text(line: &CommandLine) -> &[u8]
 // Returns the status for a reply.
 fn reply_status(refused: bool) -> Status
     ensures is { result ≡ (if refused then Status.Refused else Status.Done) }
-    ensures worked { MayEnd true false false result }
+    ensures worked { RunMayEnd true false false result }
 {
     if refused {
         Status::Refused

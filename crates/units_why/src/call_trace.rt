@@ -1,6 +1,6 @@
 //! Shows how a call of a function is evaluated.
 
-ghost use Rattle.reply.specs.Options.{IsPrintable};
+ghost use Rattle.reply.specs.Options.{AreReplyOptionsPrintable};
 
 use crate::callee::{Callee, FunctionParts, TableParts, callee_of};
 use crate::evaluator::Evaluator;
@@ -45,7 +45,7 @@ pub(crate) fn trace_call<L: Ledger>(
     options: &Options,
     call: &Tree,
 ) -> Result<Option<CallTrace>, AllocError>
-    requires { IsPrintable options.now }
+    requires { AreReplyOptionsPrintable options.now }
 {
     let (branch, word, operand) = match call {
         Tree::Call(word, operand) => (Branch::Forward, word, operand),
@@ -98,7 +98,7 @@ impl CallTrace {
         parts: &FunctionParts,
         value: &Quantity,
     ) -> Result<(), AllocError>
-        requires { IsPrintable options.now }
+        requires { AreReplyOptionsPrintable options.now }
     {
         let ((first, body), last) = match self.branch {
             Branch::Forward => ((End::Domain, Some(&parts.forward)), End::Range),
@@ -128,7 +128,7 @@ impl CallTrace {
         end: End,
         value: &Quantity,
     ) -> Result<bool, AllocError>
-        requires { IsPrintable options.now }
+        requires { AreReplyOptionsPrintable options.now }
     {
         let unit = match parts.unit(end) {
             Some(tree) => evaluator.value_if_any(tree)?,

@@ -1,6 +1,6 @@
 //! Units whose names could be read as plurals or with prefixes.
 
-ghost use Rattle.reply.specs.Options.{IsPrintable};
+ghost use Rattle.reply.specs.Options.{AreReplyOptionsPrintable};
 
 use crate::entries::key_at;
 use crate::evaluator::Evaluator;
@@ -25,7 +25,7 @@ pub(crate) fn put_captures<L: Ledger>(
     keys: &[usize],
     findings: &mut Vec<LineFinding>,
 ) -> Result<(), AllocError>
-    requires { IsPrintable options.now }
+    requires { AreReplyOptionsPrintable options.now }
 {
     for place in keys {
         if let Some(key) = unit_at(evaluator.alloc, evaluator.deck(), *place)? {
@@ -56,7 +56,7 @@ fn capture_finding<L: Ledger>(
     options: &Options,
     key: Key,
 ) -> Result<Option<Finding>, AllocError>
-    requires { IsPrintable options.now }
+    requires { AreReplyOptionsPrintable options.now }
 {
     let alloc = evaluator.alloc;
     let readings = word_readings(alloc, evaluator.deck(), key.name.as_bytes())?;

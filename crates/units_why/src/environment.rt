@@ -55,7 +55,7 @@ pub fn collect_words<R: Env>(rt: &R, alloc: Global) -> Result<Texts, AllocError>
 
 // Returns the place of the first `=`.
 fn place_of_mark(entry: &[u8]) -> Option<usize>
-    ensures { result ≡ spec.place_of_equals entry.now }
+    ensures { result ≡ spec.why_equals_place entry.now }
 {
     entry.iter().position(|b| *b == b'=')
 }
@@ -72,7 +72,7 @@ fn is_text(entry: &[u8]) -> bool
 
 // Appends a variable, unless its name already has a value.
 fn push_new(alloc: Global, vars: &mut Vars, name: &[u8], value: &[u8]) -> Result<(), AllocError>
-    ensures ok { OnOk result (vars.new ≡ spec.with_new_variable vars.old name.now value.now) }
+    ensures ok { OnOk result (vars.new ≡ spec.why_variables_with_new vars.old name.now value.now) }
     ensures err { OnErr result (vars.new ≡ vars.old) }
 {
     if vars.value(name).is_some() {
@@ -86,7 +86,7 @@ fn push_new(alloc: Global, vars: &mut Vars, name: &[u8], value: &[u8]) -> Result
 /// Adds the variable of a UTF-8 entry `NAME=VALUE`, unless its name already has a value. Ignores any other entry. On an
 /// error, nothing changes.
 pub fn add_entry(alloc: Global, vars: &mut Vars, entry: &[u8]) -> Result<(), AllocError>
-    ensures ok { OnOk result (vars.new ≡ spec.with_utf8_entry vars.old entry.now) }
+    ensures ok { OnOk result (vars.new ≡ spec.why_variables_with_utf8_entry vars.old entry.now) }
     ensures err { OnErr result (vars.new ≡ vars.old) }
 {
     if !is_text(entry) {

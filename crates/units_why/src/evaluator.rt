@@ -1,6 +1,6 @@
 //! Evaluates expressions over the table of a run.
 
-ghost use Rattle.reply.specs.Options.{IsPrintable};
+ghost use Rattle.reply.specs.Options.{AreReplyOptionsPrintable};
 
 use deck::Deck;
 use expr_tree::Tree;
@@ -56,7 +56,7 @@ impl<L: Ledger> Evaluator<L> {
         options: &Options,
         place: usize,
     ) -> Result<(), AllocError>
-        requires { IsPrintable options.now }
+        requires { AreReplyOptionsPrintable options.now }
     {
         // The cached outcomes in the table are correct.
         self.table.outcomes_are_right();
@@ -77,7 +77,7 @@ impl<L: Ledger> Evaluator<L> {
         options: &Options,
         tree: &Tree,
     ) -> Result<Evaluated, AllocError>
-        requires { IsPrintable options.now }
+        requires { AreReplyOptionsPrintable options.now }
     {
         let fault = match self.value(tree) {
             Ok(value) => return Ok(Evaluated::Value(value)),

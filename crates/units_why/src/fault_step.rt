@@ -1,6 +1,6 @@
 //! The text and the JSON format of steps without a value.
 
-ghost use Rattle.reply.specs.Options.{IsPrintable};
+ghost use Rattle.reply.specs.Options.{AreReplyOptionsPrintable};
 
 use crate::json::{put_name, put_string};
 use crate::values::value_text;
@@ -29,7 +29,7 @@ impl FaultStep {
         options: &Options,
         step: &FailedStep,
     ) -> Result<FaultStep, AllocError>
-        requires { IsPrintable options.now }
+        requires { AreReplyOptionsPrintable options.now }
     {
         match step {
             FailedStep::Joined(step, left, right) => {
@@ -86,7 +86,7 @@ fn binary(
     left: &Quantity,
     right: &Quantity,
 ) -> Result<FaultStep, AllocError>
-    requires { IsPrintable options.now }
+    requires { AreReplyOptionsPrintable options.now }
 {
     Ok(FaultStep {
         operator: Text::from_bytes(alloc, operator)?,
@@ -103,7 +103,7 @@ fn unary(
     name: &[u8],
     value: &Quantity,
 ) -> Result<FaultStep, AllocError>
-    requires { IsPrintable options.now }
+    requires { AreReplyOptionsPrintable options.now }
 {
     let mut operator = Vec::from_slice(alloc, mark)?;
     operator.extend_from_slice(name)?;

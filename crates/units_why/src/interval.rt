@@ -1,6 +1,6 @@
 //! Tests numbers against the domain and the range of a function.
 
-ghost use Rattle.reply.specs.Options.{IsPrintable};
+ghost use Rattle.reply.specs.Options.{AreReplyOptionsPrintable};
 
 use crate::values::value_text;
 use def_entry::{Bound, Span};
@@ -43,7 +43,7 @@ pub(crate) fn end_test(
     unit: Option<&Quantity>,
     value: &Quantity,
 ) -> Result<Option<EndTest>, AllocError>
-    requires { IsPrintable options.now }
+    requires { AreReplyOptionsPrintable options.now }
 {
     let Some(number) = number_in(unit, value) else {
         return Ok(None);
@@ -67,7 +67,7 @@ fn number_in(unit: Option<&Quantity>, value: &Quantity) -> Option<Frac> {
 
 // Returns an interval as definitions write it.
 fn interval_text(alloc: Global, options: &Options, span: Span) -> Result<Text, AllocError>
-    requires { IsPrintable options.now }
+    requires { AreReplyOptionsPrintable options.now }
 {
     let mut text = Vec::new(alloc);
     text.push(if is_closed(span.low) { b'[' } else { b'(' })?;
@@ -91,7 +91,7 @@ fn put_bound(
     options: &Options,
     bound: Option<Bound>,
 ) -> Result<(), AllocError>
-    requires { IsPrintable options.now }
+    requires { AreReplyOptionsPrintable options.now }
 {
     match bound {
         Some(bound) => {
@@ -104,7 +104,7 @@ fn put_bound(
 
 /// Returns the text of a number in the format that the options select.
 pub(crate) fn number_text(alloc: Global, options: &Options, x: Frac) -> Result<Text, AllocError>
-    requires { IsPrintable options.now }
+    requires { AreReplyOptionsPrintable options.now }
 {
     value_text(alloc, options, &Quantity::number(alloc, x))
 }

@@ -1,6 +1,6 @@
 //! Findings in all definitions, with their places.
 
-ghost use Rattle.reply.specs.Options.{IsPrintable};
+ghost use Rattle.reply.specs.Options.{AreReplyOptionsPrintable};
 
 use crate::ambiguous::put_ambiguous;
 use crate::answer::Answer;
@@ -33,7 +33,7 @@ pub(crate) fn lint<F: Files, L: Ledger>(
     json: bool,
     files: &mut F,
 ) -> Result<Answer, AllocError>
-    requires { IsPrintable options.now }
+    requires { AreReplyOptionsPrintable options.now }
 {
     let evaluator = &mut definitions.evaluator;
     let alloc = evaluator.alloc;
@@ -67,7 +67,7 @@ fn put_faults<L: Ledger>(
     keys: &[usize],
     findings: &mut Vec<LineFinding>,
 ) -> Result<(), AllocError>
-    requires { IsPrintable options.now }
+    requires { AreReplyOptionsPrintable options.now }
 {
     let alloc = evaluator.alloc;
     let mut line = Vec::new(alloc);

@@ -1,6 +1,6 @@
 //! The outcomes of keys.
 
-ghost use Rattle.reply.specs.Options.{IsPrintable};
+ghost use Rattle.reply.specs.Options.{AreReplyOptionsPrintable};
 
 use crate::entries::key_at;
 use crate::evaluator::Evaluator;
@@ -77,7 +77,7 @@ pub(crate) fn outcome_of<L: Ledger>(
     depth: usize,
     walk: &Walk,
 ) -> Result<Outcome, AllocError>
-    requires { IsPrintable options.now }
+    requires { AreReplyOptionsPrintable options.now }
 {
     let alloc = evaluator.alloc;
     let found = match evaluator.table.cached_outcome(alloc, key)? {
@@ -123,7 +123,7 @@ fn own_fault<L: Ledger>(
     key: &Key,
     fault: ValueFault,
 ) -> Result<Outcome, AllocError>
-    requires { IsPrintable options.now }
+    requires { AreReplyOptionsPrintable options.now }
 {
     let alloc = evaluator.alloc;
     let text = fault_text(alloc, &ReplyFault::Value(fault), options)?;

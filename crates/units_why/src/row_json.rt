@@ -1,6 +1,6 @@
 //! The JSON format of rows, one object per line.
 
-ghost use Rattle.reply.specs.Options.{IsPrintable};
+ghost use Rattle.reply.specs.Options.{AreReplyOptionsPrintable};
 
 use crate::call_trace::{Branch, CallTrace};
 use crate::decimal::put_number;
@@ -28,7 +28,7 @@ pub(crate) fn put_row_json(
     style: RowStyle<'_>,
     view: RowView<'_, '_>,
 ) -> Result<(), AllocError>
-    requires { IsPrintable style.options.now }
+    requires { AreReplyOptionsPrintable style.options.now }
 {
     let mention = view.mention;
     out.extend_from_slice(b"{\"word\":".as_slice())?;
@@ -93,7 +93,7 @@ fn put_outcome(
     options: &Options,
     outcome: LentOutcome<'_>,
 ) -> Result<(), AllocError>
-    requires { IsPrintable options.now }
+    requires { AreReplyOptionsPrintable options.now }
 {
     match outcome {
         LentOutcome::Value(value) => {

@@ -1,6 +1,6 @@
 //! Finds what a tree shows about its rows.
 
-ghost use Rattle.reply.specs.Options.{IsPrintable};
+ghost use Rattle.reply.specs.Options.{AreReplyOptionsPrintable};
 
 use crate::call_trace::{CallTrace, trace_call};
 use crate::evaluator::Evaluator;
@@ -59,7 +59,7 @@ impl RowNotes {
         options: &Options,
         row: &Row,
     ) -> Result<RowNote, AllocError>
-        requires { IsPrintable options.now }
+        requires { AreReplyOptionsPrintable options.now }
     {
         self.path.leave(row.mention.depth());
         let deck = evaluator.deck();
@@ -103,7 +103,7 @@ fn boxed_trace<L: Ledger>(
     options: &Options,
     call: Option<Tree>,
 ) -> Result<Option<Box<CallTrace>>, AllocError>
-    requires { IsPrintable options.now }
+    requires { AreReplyOptionsPrintable options.now }
 {
     let Some(call) = call else {
         return Ok(None);

@@ -1,6 +1,6 @@
 //! The text format of rows, one line per row.
 
-ghost use Rattle.reply.specs.Options.{IsPrintable};
+ghost use Rattle.reply.specs.Options.{AreReplyOptionsPrintable};
 
 use crate::call_trace::{Branch, CallTrace};
 use crate::decimal::put_number_between;
@@ -36,7 +36,7 @@ pub(crate) fn put_row_text(
     style: RowStyle<'_>,
     view: RowView<'_, '_>,
 ) -> Result<(), AllocError>
-    requires { IsPrintable style.options.now }
+    requires { AreReplyOptionsPrintable style.options.now }
 {
     let deck = places.deck;
     let depth = view.mention.depth();
@@ -186,7 +186,7 @@ fn put_outcome(
     options: &Options,
     outcome: LentOutcome<'_>,
 ) -> Result<(), AllocError>
-    requires { IsPrintable options.now }
+    requires { AreReplyOptionsPrintable options.now }
 {
     match outcome {
         LentOutcome::Value(value) => {

@@ -1,6 +1,6 @@
 //! The run of the program.
 
-ghost use Rattle.reply.specs.Options.{IsPrintable};
+ghost use Rattle.reply.specs.Options.{AreReplyOptionsPrintable};
 ghost use Rattle.why_words.specs.Digits.{HasWhyDigits};
 
 use crate::definitions::{Definitions, load};
@@ -154,7 +154,7 @@ fn question_of<'a>(from: &'a Text, to: &'a Option<Text>, json: bool) -> Question
 // Returns the options that values are written with.
 fn options_of(request: &Request) -> Options
     requires { HasWhyDigits request.now }
-    ensures { IsPrintable result }
+    ensures { AreReplyOptionsPrintable result }
 {
     Options {
         digits: request.digits.unwrap_or(8),

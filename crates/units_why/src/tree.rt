@@ -1,6 +1,6 @@
 //! The tree of an expression.
 
-ghost use Rattle.reply.specs.Options.{IsPrintable};
+ghost use Rattle.reply.specs.Options.{AreReplyOptionsPrintable};
 
 use crate::evaluator::Evaluator;
 use crate::fault_step::FaultStep;
@@ -29,7 +29,7 @@ pub(crate) fn tree_of<L: Ledger>(
     options: &Options,
     text: &[u8],
 ) -> Result<RowTree, AllocError>
-    requires { IsPrintable options.now }
+    requires { AreReplyOptionsPrintable options.now }
 {
     let alloc = evaluator.alloc;
     let Ok(tree) = parse_expr(alloc, text, None) else {
@@ -57,7 +57,7 @@ fn own_step<L: Ledger>(
     tree: &Tree,
     walk: &Walk,
 ) -> Result<Option<FaultStep>, AllocError>
-    requires { IsPrintable options.now }
+    requires { AreReplyOptionsPrintable options.now }
 {
     for mention in walk.pending() {
         if has_fault(evaluator, mention)? {

@@ -1,6 +1,6 @@
 //! Definitions that do not conform to the units in their comments.
 
-ghost use Rattle.reply.specs.Options.{IsPrintable};
+ghost use Rattle.reply.specs.Options.{AreReplyOptionsPrintable};
 
 use crate::aliases::Aliases;
 use crate::definitions::Definitions;
@@ -37,7 +37,7 @@ pub(crate) fn put_unmet<F: Files, L: Ledger>(
     files: &mut F,
     findings: &mut Vec<LineFinding>,
 ) -> Result<(), AllocError>
-    requires { IsPrintable options.now }
+    requires { AreReplyOptionsPrintable options.now }
 {
     let alloc = definitions.evaluator.alloc;
     let noted = noted_units(alloc, Places::of(definitions), keys, files)?;
@@ -126,7 +126,7 @@ fn unmet_message<L: Ledger>(
     unit: &Text,
     tree: &Tree,
 ) -> Result<Option<Text>, AllocError>
-    requires { IsPrintable options.now }
+    requires { AreReplyOptionsPrintable options.now }
 {
     let alloc = evaluator.alloc;
     let wanted = match parse_expr(alloc, unit.as_bytes(), None) {

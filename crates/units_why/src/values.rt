@@ -1,7 +1,7 @@
 //! The text of values.
 
-ghost use Rattle.digits_print.specs.Styles.{IsStyle};
-ghost use Rattle.reply.specs.Options.{IsPrintable};
+ghost use Rattle.digits_print.specs.Styles.{IsPrintStyle};
+ghost use Rattle.reply.specs.Options.{AreReplyOptionsPrintable};
 
 use digits_print::Style;
 use frac128::Frac;
@@ -16,7 +16,7 @@ pub(crate) fn value_text(
     options: &Options,
     value: &Quantity,
 ) -> Result<Text, AllocError>
-    requires { IsPrintable options.now }
+    requires { AreReplyOptionsPrintable options.now }
 {
     value.show(alloc, style_of(options, &value.value()))
 }
@@ -28,15 +28,15 @@ pub(crate) fn put_value(
     options: &Options,
     value: &Quantity,
 ) -> Result<(), AllocError>
-    requires { IsPrintable options.now }
+    requires { AreReplyOptionsPrintable options.now }
 {
     value.put(alloc, out, style_of(options, &value.value()))
 }
 
 // Returns the style of a number. Both styles write a whole number of few digits alike, and the exact one is faster.
 fn style_of(options: &Options, number: &Frac) -> Style
-    requires { IsPrintable options.now }
-    ensures { IsStyle result }
+    requires { AreReplyOptionsPrintable options.now }
+    ensures { IsPrintStyle result }
 {
     if options.exact || is_whole_below(number, options.digits) {
         Style::Exact

@@ -1,6 +1,6 @@
 //! Explains why an expression has its value.
 
-ghost use Rattle.reply.specs.Options.{IsPrintable};
+ghost use Rattle.reply.specs.Options.{AreReplyOptionsPrintable};
 
 use crate::definitions::Definitions;
 use crate::evaluator::Evaluator;
@@ -38,7 +38,7 @@ pub(crate) fn explain<O: Sink, L: Ledger>(
     options: &Options,
     question: Question<'_>,
 ) -> Result<bool, OutputFault>
-    requires { IsPrintable options.now }
+    requires { AreReplyOptionsPrintable options.now }
 {
     let from = line_content(question.from);
     let to = line_content(question.to);
@@ -67,7 +67,7 @@ fn reply_to<L: Ledger>(
     from: &[u8],
     to: &[u8],
 ) -> Result<Reply, AllocError>
-    requires { IsPrintable options.now }
+    requires { AreReplyOptionsPrintable options.now }
 {
     let alloc = evaluator.alloc;
     let table = &mut evaluator.table;
@@ -127,7 +127,7 @@ fn put_rows<O: Sink, L: Ledger>(
     style: RowStyle<'_>,
     tree: RowTree,
 ) -> Result<(), OutputFault>
-    requires { IsPrintable style.options.now }
+    requires { AreReplyOptionsPrintable style.options.now }
 {
     let RowTree { walk, calls, .. } = tree;
     let Some(mut walk) = walk else {
@@ -166,7 +166,7 @@ fn put_next<L: Ledger>(
     walk: &Walk,
     view: RowView<'_, '_>,
 ) -> Result<(), AllocError>
-    requires { IsPrintable style.options.now }
+    requires { AreReplyOptionsPrintable style.options.now }
 {
     let alloc = definitions.evaluator.alloc;
     let (Standing::Defined(_), Some(key)) = (view.note.standing, view.key) else {
@@ -190,7 +190,7 @@ fn put_row(
     style: RowStyle<'_>,
     view: RowView<'_, '_>,
 ) -> Result<(), AllocError>
-    requires { IsPrintable style.options.now }
+    requires { AreReplyOptionsPrintable style.options.now }
 {
     if style.json {
         put_row_json(alloc, out, places, style, view)

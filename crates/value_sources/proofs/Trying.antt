@@ -7,35 +7,36 @@ use Rattle.std.proofs.Math.Seq.{drop-append_seam}
 use Rattle.def_entry.specs.Keys.{key}
 use Rattle.def_entry.specs.declared.key.Kind.{Kind}
 use Rattle.value_sources.specs.declared.tried_keys.TriedKey.{TriedKey}
-use Rattle.value_sources.specs.TriedKeys.{AreRangesWithin, key_in, keys_in}
+use Rattle.value_sources.specs.TriedKeys.{AreTriedSourceRangesWithin, tried_source_key, tried_source_keys}
 
 -- the name of a key does not change when bytes are appended
-same_key : (names more : List ℕ) (k : TriedKey) → k.start ≤ k.end → k.end ≤ length names
-    → key_in (names ++ more) k ≡ key_in names k
-same_key names more k h w =
+tried_source_key_stays : (names more : List ℕ) (k : TriedKey) → k.start ≤ k.end → k.end ≤ length names
+    → tried_source_key (names ++ more) k ≡ tried_source_key names k
+tried_source_key_stays names more k h w =
     let s : k.start ≤ length names = omega (arith, h, w) in
     let n : length (drop k.start names) ≡ length names - k.start = length-drop k.start names in
     let m : k.end - k.start ≤ length (drop k.start names) = omega (arith, h, w, n) in
     ap (λ (xs : List ℕ). key k.kind (take (k.end - k.start) xs)) (drop-append-le k.start names more s)
     ∙ ap (key k.kind) (take-append-le (k.end - k.start) (drop k.start names) more m)
 
-same_keys : (names more : List ℕ) (ks : List TriedKey)
+tried_source_keys_stay : (names more : List ℕ) (ks : List TriedKey)
     → ((i : ℕ) (k : TriedKey) → slice_get ks i ≡ Some k → k.start ≤ k.end)
     → ((i : ℕ) (k : TriedKey) → slice_get ks i ≡ Some k → k.end ≤ length names)
-    → keys_in (names ++ more) ks ≡ keys_in names ks
-same_keys names more [] s e = refl
-same_keys names more (k ∷ ks) s e =
-    let a : key_in (names ++ more) k ≡ key_in names k = same_key names more k (s 0 k refl)
+    → tried_source_keys (names ++ more) ks ≡ tried_source_keys names ks
+tried_source_keys_stay names more [] s e = refl
+tried_source_keys_stay names more (k ∷ ks) s e =
+    let a : tried_source_key (names ++ more) k ≡ tried_source_key names k = tried_source_key_stays names more k
+    (s 0 k refl)
     (e 0 k refl) in
-    let b : keys_in (names ++ more) ks ≡ keys_in names ks =
-    same_keys names more ks (λ i x q. s (suc i) x q) (λ i x q. e (suc i) x q) in
+    let b : tried_source_keys (names ++ more) ks ≡ tried_source_keys names ks =
+    tried_source_keys_stay names more ks (λ i x q. s (suc i) x q) (λ i x q. e (suc i) x q) in
     λ i. a i ∷ b i
 
 -- the bytes after the previous names are the name of the last key
-last_key : (names more : List ℕ) (k : TriedKey) → k.start ≡ length names
+last_tried_source_key : (names more : List ℕ) (k : TriedKey) → k.start ≡ length names
     → k.end ≡ length (names ++ more)
-    → key_in (names ++ more) k ≡ key k.kind more
-last_key names more k s e =
+    → tried_source_key (names ++ more) k ≡ key k.kind more
+last_tried_source_key names more k s e =
     let n : length (names ++ more) ≡ length names + length more = length-append names more in
     let m : length more ≤ k.end - k.start = omega (arith, s, e, n) in
     ap (λ (x : ℕ). key k.kind (take (k.end - k.start) (drop x (names ++ more)))) s
@@ -43,14 +44,15 @@ last_key names more k s e =
     ∙ ap (key k.kind) (take_all (k.end - k.start) more m))
 
 -- one more key is appended
-pub tried_push : (names more all : List ℕ) (ks now : List TriedKey) (kind : Kind) (start end : ℕ)
-    → AreRangesWithin names ks
+pub tried_source_key_push : (names more all : List ℕ) (ks now : List TriedKey) (kind : Kind) (start end : ℕ)
+    → AreTriedSourceRangesWithin names ks
     → all ≡ names ++ more → now ≡ ks ++ record { kind = kind; start = start; end = end } ∷ []
     → start ≡ length names → end ≡ length all
-    → keys_in all now ≡ keys_in names ks ++ key kind more ∷ []
-tried_push names more all ks now kind start end w a n s e =
+    → tried_source_keys all now ≡ tried_source_keys names ks ++ key kind more ∷ []
+tried_source_key_push names more all ks now kind start end w a n s e =
     let k : TriedKey = record { kind = kind; start = start; end = end } in
-    (λ i. keys_in (a i) (n i))
-    ∙ (map-append (key_in (names ++ more)) ks (k ∷ [])
-    ∙ (λ i. same_keys names more ks w.range_starts w.range_ends i ++ last_key names more k s (e ∙ ap length a) i ∷
+    (λ i. tried_source_keys (a i) (n i))
+    ∙ (map-append (tried_source_key (names ++ more)) ks (k ∷ [])
+    ∙ (λ i. tried_source_keys_stay names more ks w.range_starts w.range_ends i ++ last_tried_source_key names more k s
+    (e ∙ ap length a) i ∷
     []))

@@ -6,43 +6,46 @@ use Rattle.expr_tree.specs.Words.{words_in}
 use Rattle.def_entry.specs.Entries as what
 use Rattle.def_entry.specs.Entries.{Entry, FunctionDef, What}
 use Rattle.def_entry.specs.Tables.{entry_at}
-use Rattle.tree_eval.specs.Entries.{function_words, words_if}
-use Rattle.table_names.specs.Words.{entry_words, what_words}
+use Rattle.tree_eval.specs.Entries.{eval_tree_words_if, function_eval_words}
+use Rattle.table_names.specs.Words.{table_words_of_entry, table_words_of_what}
 use Rattle.value_sources.specs.declared.site.Site.{Site}
 use Rattle.value_sources.specs.declared.site.Site.TheVariants as site
-use Rattle.value_sources.specs.Uses.{Use, UsesLaw, entry_uses, function_uses, use_words, uses_at, what_uses}
+use Rattle.value_sources.specs.Uses.{SourceUse, SourceUsesLaw, entry_source_uses, function_source_uses}
+use Rattle.value_sources.specs.Uses.{source_use_words, source_uses_at, what_source_uses}
 
-pub words_at : (s : Site) (words : List WordUse) → use_words (uses_at s words) ≡ words
-words_at s [] = refl
-words_at s (w ∷ words) = ap (λ (ws : List WordUse). w ∷ ws) (words_at s words)
+pub source_use_words_at : (s : Site) (words : List WordUse) → source_use_words (source_uses_at s words) ≡ words
+source_use_words_at s [] = refl
+source_use_words_at s (w ∷ words) = ap (λ (ws : List WordUse). w ∷ ws) (source_use_words_at s words)
 
-words_both : (a b : List Use) (x y : List WordUse) → use_words a ≡ x → use_words b ≡ y → use_words (a ++ b) ≡ x ++ y
-words_both a b x y p q = map-append (λ (u : Use). u.word) a b ∙ (λ i. p i ++ q i)
+source_use_words_append : (a b : List SourceUse) (x y : List WordUse) → source_use_words a ≡ x → source_use_words b ≡ y
+    → source_use_words (a ++ b) ≡ x ++ y
+source_use_words_append a b x y p q = map-append (λ (u : SourceUse). u.word) a b ∙ (λ i. p i ++ q i)
 
-function_words_are : (d : FunctionDef) → use_words (function_uses d) ≡ function_words d
-function_words_are d =
-    let a : List WordUse = words_if d.in_unit in
-    let b : List WordUse = words_if d.out_unit in
+function_source_words : (d : FunctionDef) → source_use_words (function_source_uses d) ≡ function_eval_words d
+function_source_words d =
+    let a : List WordUse = eval_tree_words_if d.in_unit in
+    let b : List WordUse = eval_tree_words_if d.out_unit in
     let c : List WordUse = words_in d.forward in
-    let e : List WordUse = words_if d.inverse in
-    let two : List Use = uses_at site.InUnit a ++ uses_at site.OutUnit b in
-    words_both (two ++ uses_at site.Forward c) (uses_at site.Inverse e) (a ++ b ++ c) e
-    (words_both two (uses_at site.Forward c) (a ++ b) c
-    (words_both (uses_at site.InUnit a) (uses_at site.OutUnit b) a b (words_at site.InUnit a) (words_at site.OutUnit b))
-    (words_at site.Forward c)) (words_at site.Inverse e)
+    let e : List WordUse = eval_tree_words_if d.inverse in
+    let two : List SourceUse = source_uses_at site.InUnit a ++ source_uses_at site.OutUnit b in
+    source_use_words_append (two ++ source_uses_at site.Forward c) (source_uses_at site.Inverse e) (a ++ b ++ c) e
+    (source_use_words_append two (source_uses_at site.Forward c) (a ++ b) c
+    (source_use_words_append (source_uses_at site.InUnit a) (source_uses_at site.OutUnit b) a b
+    (source_use_words_at site.InUnit a) (source_use_words_at site.OutUnit b))
+    (source_use_words_at site.Forward c)) (source_use_words_at site.Inverse e)
 
-what_words_are : (w : What) → use_words (what_uses w) ≡ what_words w
-what_words_are what.Primitive = refl
-what_words_are what.Dimensionless = refl
-what_words_are (what.Body e) = words_at site.Body (words_in e)
-what_words_are (what.Function d) = function_words_are d
-what_words_are (what.Alias target) = refl
-what_words_are (what.Table d) = words_at site.TableUnit (words_in d.unit)
-what_words_are (what.ListOf parts) = refl
+what_source_words : (w : What) → source_use_words (what_source_uses w) ≡ table_words_of_what w
+what_source_words what.Primitive = refl
+what_source_words what.Dimensionless = refl
+what_source_words (what.Body e) = source_use_words_at site.Body (words_in e)
+what_source_words (what.Function d) = function_source_words d
+what_source_words (what.Alias target) = refl
+what_source_words (what.Table d) = source_use_words_at site.TableUnit (words_in d.unit)
+what_source_words (what.ListOf parts) = refl
 
-entry_words_are : (e : Option Entry) → use_words (entry_uses e) ≡ entry_words e
-entry_words_are None = refl
-entry_words_are (Some e) = what_words_are e.what
+entry_source_words : (e : Option Entry) → source_use_words (entry_source_uses e) ≡ table_words_of_entry e
+entry_source_words None = refl
+entry_source_words (Some e) = what_source_words e.what
 
-pub key_words_are : UsesLaw
-key_words_are table n = entry_words_are (entry_at table n)
+pub source_uses_law : SourceUsesLaw
+source_uses_law table n = entry_source_words (entry_at table n)

@@ -8,69 +8,75 @@ use Rattle.def_entry.specs.declared.key.Key.{Key}
 use Rattle.def_entry.specs.declared.key.Kind.TheVariants as kind
 use Rattle.def_entry.specs.Entries.{Alias, Body, Function, Primitive}
 use Rattle.def_entry.specs.Keys.{key}
-use Rattle.def_entry.specs.Tables.{Table}
+use Rattle.def_entry.specs.Tables.{EntryTable}
 use Rattle.value_sources.specs.declared.resolution.Resolution.{Resolution}
 use Rattle.value_sources.specs.declared.resolution.Resolution.TheVariants.{Unknown, Name, Plural, Prefix, PrefixedUnit}
 use Rattle.value_sources.specs.declared.site.Site.{Site}
 use Rattle.value_sources.specs.declared.site.Site.TheVariants.{AliasTarget, Expression, Forward, Inverse}
 use Rattle.value_sources.specs.declared.site.Site.TheVariants.{Body as InBody}
-use Rattle.value_sources.specs.Cycles.{cycle_flags}
+use Rattle.value_sources.specs.Cycles.{source_cycle_flags}
 use Rattle.value_sources.specs.Mentions.{Mention}
-use Rattle.value_sources.specs.Rows.{AreRowsOf, Row, skipped_row, visited_row}
-use Rattle.value_sources.specs.Values.{value_syntax}
+use Rattle.value_sources.specs.Rows.{AreSourceRowsOf, SourceRow, skipped_source_row, visited_source_row}
+use Rattle.value_sources.specs.Values.{source_value_syntax}
 
-abbrev pub metre_key : Key
-metre_key = key kind.Unit (codes "m")
+abbrev pub metre_source_key : Key
+metre_source_key = key kind.Unit (codes "m")
 
-abbrev pub kilo_key : Key
-kilo_key = key kind.Prefix (codes "k")
+abbrev pub kilo_source_key : Key
+kilo_source_key = key kind.Prefix (codes "k")
 
-abbrev pub mile : Key
-mile = key kind.Unit (codes "mile")
+abbrev pub mile_source_key : Key
+mile_source_key = key kind.Unit (codes "mile")
 
-abbrev pub loop : Key
-loop = key kind.Unit (codes "loop")
+abbrev pub loop_source_key : Key
+loop_source_key = key kind.Unit (codes "loop")
 
--- the lines `m !`, `k- 1000`, `mile km` and `loop loop`
-abbrev pub source_table : Table
+-- the lines `m !`, `k- 1000`, `mile_source_key km` and `loop_source_key loop_source_key`
+abbrev pub source_table : EntryTable
 source_table =
-    (loop, record { text = codes "loop"; what = Body (Word (codes "loop")) })
-    ∷ (mile, record { text = codes "km"; what = Body (Word (codes "km")) })
-    ∷ (kilo_key, record { text = codes "1000"; what = Body (Number (record { coefficient = 1; scale = pos 3 })) })
-    ∷ (metre_key, record { text = codes "!"; what = Primitive })
+    (loop_source_key, record { text = codes "loop"; what = Body (Word (codes "loop")) })
+    ∷ (mile_source_key, record { text = codes "km"; what = Body (Word (codes "km")) })
+    ∷ (
+      kilo_source_key,
+      record {
+        text = codes "1000";
+        what = Body (Number (record { coefficient = 1; scale = pos 3 }));
+      },
+    )
+    ∷ (metre_source_key, record { text = codes "!"; what = Primitive })
     ∷ []
 
-abbrev pub one_word_use : List ℕ → WordUse
-one_word_use text = record { text = text; kind = word_kind.Plain }
+abbrev pub one_source_word_use : List ℕ → WordUse
+one_source_word_use text = record { text = text; kind = word_kind.Plain }
 
 -- a word of the expression, and a word of the entry of a key of the expression
 abbrev pub outer_mention : List ℕ → Resolution → Key → Mention
 outer_mention text resolution n =
-    record { depth = 0; site = Expression; word = one_word_use text; resolution = resolution; target = Some n }
+    record { depth = 0; site = Expression; word = one_source_word_use text; resolution = resolution; target = Some n }
 
 abbrev pub inner_mention : List ℕ → Resolution → Key → Mention
 inner_mention text resolution n =
-    record { depth = 1; site = InBody; word = one_word_use text; resolution = resolution; target = Some n }
+    record { depth = 1; site = InBody; word = one_source_word_use text; resolution = resolution; target = Some n }
 
 abbrev pub unknown_mention : List ℕ → Mention
 unknown_mention text =
-    record { depth = 0; site = Expression; word = one_word_use text; resolution = Unknown; target = None }
+    record { depth = 0; site = Expression; word = one_source_word_use text; resolution = Unknown; target = None }
 
-abbrev pub second_key : Key
-second_key = key kind.Unit (codes "s")
+abbrev pub second_source_key : Key
+second_source_key = key kind.Unit (codes "s")
 
-abbrev pub f_key : Key
-f_key = key kind.Func (codes "f")
+abbrev pub f_source_key : Key
+f_source_key = key kind.Func (codes "f")
 
-abbrev pub g_key : Key
-g_key = key kind.Func (codes "g")
+abbrev pub g_source_key : Key
+g_source_key = key kind.Func (codes "g")
 
 -- the function f, whose result is m and whose inverse is s, and the alias `g() f`
-abbrev pub function_table : Table
-function_table =
-    (g_key, record { text = codes "() f"; what = Alias (codes "f") })
+abbrev pub function_source_table : EntryTable
+function_source_table =
+    (g_source_key, record { text = codes "() f"; what = Alias (codes "f") })
     ∷ (
-      f_key,
+      f_source_key,
       record {
         text = codes "(x) m; s";
         what = Function (record {
@@ -83,8 +89,8 @@ function_table =
         });
       },
     )
-    ∷ (second_key, record { text = codes "!"; what = Primitive })
-    ∷ (metre_key, record { text = codes "!"; what = Primitive })
+    ∷ (second_source_key, record { text = codes "!"; what = Primitive })
+    ∷ (metre_source_key, record { text = codes "!"; what = Primitive })
     ∷ []
 
 -- a word that is the name of its key
@@ -97,35 +103,39 @@ mention_by_name depth at word_kind n = record {
   target = Some n;
 }
 
--- the rows of `m m` and of `loop`
-abbrev pub repeated_rows : List Row
-repeated_rows = visited_row (outer_mention (codes "m") Name metre_key) ∷ skipped_row
-    (outer_mention (codes "m") Name metre_key) ∷ []
+-- the rows of `m m` and of `loop_source_key`
+abbrev pub repeated_source_rows : List SourceRow
+repeated_source_rows = visited_source_row (outer_mention (codes "m") Name metre_source_key) ∷ skipped_source_row
+    (outer_mention (codes "m") Name metre_source_key) ∷ []
 
-abbrev pub loop_rows : List Row
-loop_rows = visited_row (outer_mention (codes "loop") Name loop) ∷ skipped_row (inner_mention (codes "loop") Name loop)
+abbrev pub loop_source_rows : List SourceRow
+loop_source_rows = visited_source_row (outer_mention (codes "loop") Name loop_source_key) ∷ skipped_source_row
+    (inner_mention (codes "loop") Name loop_source_key)
     ∷ []
 
 -- law: the rows of `miles`, a plural, with the prefix and the unit of its entry below; of `m m`, whose second row
--- visits nothing; of `x`, which is unknown; of `loop`, which is on a cycle; and of `~g(..)`, an alias of a function
--- with an inverse. The expression whose value is that of a prefix is its definition, that of a primitive unit is its
--- name, and a function has none. The second row of `loop` closes a cycle, and the second row of `m m` does not.
+-- visits nothing; of `x`, which is unknown; of `loop_source_key`, which is on a cycle; and of `~g(..)`, an alias of a
+-- function with an inverse. The expression whose value is that of a prefix is its definition, that of a primitive unit
+-- is its name, and a function has none. The second row of `loop_source_key` closes a cycle, and the second row of `m m`
+-- does not.
 pub record SourceExamplesLaw : Type 0 where
-  pub plural : AreRowsOf source_table (one_word_use (codes "miles") ∷ [])
-      (visited_row (outer_mention (codes "miles") Plural mile) ∷ visited_row
-      (inner_mention (codes "km") Prefix kilo_key)
-      ∷ visited_row (inner_mention (codes "km") PrefixedUnit metre_key) ∷ [])
-  pub word_twice : AreRowsOf source_table (one_word_use (codes "m") ∷ one_word_use (codes "m") ∷ []) repeated_rows
-  pub unknown_word : AreRowsOf source_table (one_word_use (codes "x") ∷ [])
-      (skipped_row (unknown_mention (codes "x")) ∷ [])
-  pub cycle : AreRowsOf source_table (one_word_use (codes "loop") ∷ []) loop_rows
-  pub function : AreRowsOf function_table (record { text = codes "g"; kind = word_kind.Inverse } ∷ [])
-      (visited_row (mention_by_name 0 Expression word_kind.Inverse g_key) ∷ visited_row
-      (mention_by_name 1 AliasTarget word_kind.Inverse f_key)
-      ∷ visited_row (mention_by_name 2 Forward word_kind.Plain metre_key) ∷ visited_row
-      (mention_by_name 2 Inverse word_kind.Plain second_key) ∷ [])
-  pub prefix_value : value_syntax source_table kilo_key ≡ Some (Number (record { coefficient = 1; scale = pos 3 }))
-  pub unit_value : value_syntax source_table metre_key ≡ Some (Word (codes "m"))
-  pub function_value : value_syntax function_table f_key ≡ None
-  pub repeated_flags : cycle_flags [] repeated_rows ≡ false ∷ false ∷ []
-  pub cycle_flags_of_loop : cycle_flags [] loop_rows ≡ false ∷ true ∷ []
+  pub plural : AreSourceRowsOf source_table (one_source_word_use (codes "miles") ∷ [])
+      (visited_source_row (outer_mention (codes "miles") Plural mile_source_key) ∷ visited_source_row
+      (inner_mention (codes "km") Prefix kilo_source_key)
+      ∷ visited_source_row (inner_mention (codes "km") PrefixedUnit metre_source_key) ∷ [])
+  pub word_twice : AreSourceRowsOf source_table (one_source_word_use (codes "m") ∷ one_source_word_use (codes "m") ∷ [])
+      repeated_source_rows
+  pub unknown_word : AreSourceRowsOf source_table (one_source_word_use (codes "x") ∷ [])
+      (skipped_source_row (unknown_mention (codes "x")) ∷ [])
+  pub cycle : AreSourceRowsOf source_table (one_source_word_use (codes "loop") ∷ []) loop_source_rows
+  pub function : AreSourceRowsOf function_source_table (record { text = codes "g"; kind = word_kind.Inverse } ∷ [])
+      (visited_source_row (mention_by_name 0 Expression word_kind.Inverse g_source_key) ∷ visited_source_row
+      (mention_by_name 1 AliasTarget word_kind.Inverse f_source_key)
+      ∷ visited_source_row (mention_by_name 2 Forward word_kind.Plain metre_source_key) ∷ visited_source_row
+      (mention_by_name 2 Inverse word_kind.Plain second_source_key) ∷ [])
+  pub prefix_value : source_value_syntax source_table kilo_source_key ≡ Some
+      (Number (record { coefficient = 1; scale = pos 3 }))
+  pub unit_value : source_value_syntax source_table metre_source_key ≡ Some (Word (codes "m"))
+  pub function_value : source_value_syntax function_source_table f_source_key ≡ None
+  pub repeated_flags : source_cycle_flags [] repeated_source_rows ≡ false ∷ false ∷ []
+  pub cycle_flags_of_loop : source_cycle_flags [] loop_source_rows ≡ false ∷ true ∷ []

@@ -9,17 +9,17 @@ use Rattle.def_entry.specs.Keys.{key}
 use Rattle.value_sources.specs.declared.word_keys.Lead.{Lead}
 use Rattle.value_sources.specs.declared.word_keys.Lead.TheVariants.{Nowhere, One, Two}
 
-abbrev pub lead_keys : Lead → List Key
-lead_keys Nowhere = []
-lead_keys (One n) = n ∷ []
-lead_keys (Two n m) = n ∷ m ∷ []
+abbrev pub source_lead_keys : Lead → List Key
+source_lead_keys Nowhere = []
+source_lead_keys (One n) = n ∷ []
+source_lead_keys (Two n m) = n ∷ m ∷ []
 
 -- the key at a place; its name is empty beyond the last
-abbrev pub key_at_place : List Key → ℕ → Key
-key_at_place keys n = slice_index_or keys n (key kind.Unit [])
+abbrev pub source_key_at_place : List Key → ℕ → Key
+source_key_at_place keys n = slice_index_or keys n (key kind.Unit [])
 
 -- the kind of the key that the lookup of a word tries first
-abbrev pub first_kind : WordKind → Kind
-first_kind word_kind.Plain = kind.Unit
-first_kind word_kind.Call = kind.Func
-first_kind word_kind.Inverse = kind.Func
+abbrev pub first_kind_of_mentioned_word : WordKind → Kind
+first_kind_of_mentioned_word word_kind.Plain = kind.Unit
+first_kind_of_mentioned_word word_kind.Call = kind.Func
+first_kind_of_mentioned_word word_kind.Inverse = kind.Func

@@ -3,12 +3,12 @@ use Rattle.std.specs.Prelude.{ℕ, List, [], ◌∷◌, map, flat_map, if◌then
 use Rattle.std.specs.Str.{bytes_eq}
 use Rattle.expr_tree.specs.declared.word_list.WordUse.{WordUse}
 use Rattle.def_entry.specs.declared.key.Key.{Key}
-use Rattle.def_entry.specs.Tables.{Table}
-use Rattle.table_names.specs.Leads.{targets}
+use Rattle.def_entry.specs.Tables.{EntryTable}
+use Rattle.table_names.specs.Leads.{table_word_targets}
 use Rattle.value_sources.specs.declared.resolution.Resolution.{Resolution}
 use Rattle.value_sources.specs.declared.resolution.Resolution.TheVariants.{Unknown, Name, Plural, Prefix, PrefixedUnit}
 use Rattle.value_sources.specs.declared.site.Site.{Site}
-use Rattle.value_sources.specs.Uses.{Use}
+use Rattle.value_sources.specs.Uses.{SourceUse}
 
 -- a word with one of the keys that it leads to, or with none if it is unknown: the number of entries that contain it,
 -- the tree that contains it, and how it leads to the key
@@ -25,24 +25,24 @@ mention_text (Some word) key = word
 mention_text None (Some n) = n.name
 mention_text None None = []
 
-abbrev pub unknown_mention : ℕ → Use → Mention
+abbrev pub unknown_mention : ℕ → SourceUse → Mention
 unknown_mention depth u =
     record { depth = depth; site = u.site; word = u.word; resolution = Unknown; target = None }
 
-abbrev pub mention_by : Resolution → ℕ → Use → Key → Mention
+abbrev pub mention_by : Resolution → ℕ → SourceUse → Key → Mention
 mention_by resolution depth u n =
     record { depth = depth; site = u.site; word = u.word; resolution = resolution; target = Some n }
 
 -- how a word leads to the only key that it leads to: `m` to the unit `m` as its name, `miles` to `mile` as a plural
-abbrev pub sole_resolution : WordUse → Key → Resolution
-sole_resolution u n = if bytes_eq u.text n.name then Name else Plural
+abbrev pub sole_mention_resolution : WordUse → Key → Resolution
+sole_mention_resolution u n = if bytes_eq u.text n.name then Name else Plural
 
 -- a word with each of the keys that it leads to. Of two keys the first is a prefix and the second its unit
-abbrev pub mentions_to : ℕ → Use → List Key → List Mention
+abbrev pub mentions_to : ℕ → SourceUse → List Key → List Mention
 mentions_to depth u [] = unknown_mention depth u ∷ []
-mentions_to depth u (n ∷ []) = mention_by (sole_resolution u.word n) depth u n ∷ []
+mentions_to depth u (n ∷ []) = mention_by (sole_mention_resolution u.word n) depth u n ∷ []
 mentions_to depth u (n ∷ ns) = mention_by Prefix depth u n ∷ map (mention_by PrefixedUnit depth u) ns
 
 -- words at this depth, each with the keys that it leads to
-abbrev pub mentions : Table → ℕ → List Use → List Mention
-mentions table depth uses = flat_map (λ u. mentions_to depth u (targets table u.word)) uses
+abbrev pub mentions : EntryTable → ℕ → List SourceUse → List Mention
+mentions table depth uses = flat_map (λ u. mentions_to depth u (table_word_targets table u.word)) uses

@@ -5,13 +5,13 @@ use Rattle.def_entry.specs.declared.key.Key.{Key}
 use Rattle.value_sources.specs.declared.tried_keys.TriedKey.{TriedKey}
 
 -- the key whose name is at its range among the names
-abbrev pub key_in : (names : List ℕ) → TriedKey → Key
-key_in names tried = key tried.kind (take (tried.end - tried.start) (drop tried.start names))
+abbrev pub tried_source_key : (names : List ℕ) → TriedKey → Key
+tried_source_key names tried = key tried.kind (take (tried.end - tried.start) (drop tried.start names))
 
-abbrev pub keys_in : (names : List ℕ) → List TriedKey → List Key
-keys_in names tried = map (key_in names) tried
+abbrev pub tried_source_keys : (names : List ℕ) → List TriedKey → List Key
+tried_source_keys names tried = map (tried_source_key names) tried
 
 -- each range is within the names
-pub record AreRangesWithin (names : List ℕ) (tried : List TriedKey) : Type 0 where
+pub record AreTriedSourceRangesWithin (names : List ℕ) (tried : List TriedKey) : Type 0 where
   pub range_starts : (i : ℕ) (k : TriedKey) → slice_get tried i ≡ Some k → k.start ≤ k.end
   pub range_ends : (i : ℕ) (k : TriedKey) → slice_get tried i ≡ Some k → k.end ≤ length names

@@ -1,7 +1,8 @@
 //! The calls of an expression.
 
 ghost use Rattle.std.specs.Prelude.{◌≡◌, ◌++◌, ◌∷◌, [], IfOk, OnOk, map};
-ghost use Rattle.expr_tree.specs.Trees.{factors_of, factors_syntax, members, syntax, terms, terms_of, trees_of};
+ghost use Rattle.expr_tree.specs.Trees.{factors_syntax, members_syntax, syntax, syntax_of_factors, syntax_of_terms};
+ghost use Rattle.expr_tree.specs.Trees.{syntax_of_trees, terms_syntax};
 ghost use Rattle.value_sources.specs.Calls as spec;
 
 use expr_tree::{Factors, Terms, Tree, Trees, view_law};
@@ -61,7 +62,7 @@ fn put_call(alloc: Global, calls: &mut Vec<Tree>, call: &Tree) -> Result<(), All
 #[cycle(put)]
 fn put_member_calls(alloc: Global, calls: &mut Vec<Tree>, trees: &Trees) -> Result<(), AllocError>
     ensures { OnOk result (map syntax calls.new.items
-        ≡ map syntax calls.old.items ++ spec.calls_in_members (members (trees_of trees.now))) }
+        ≡ map syntax calls.old.items ++ spec.calls_in_members (members_syntax (syntax_of_trees trees.now))) }
 {
     for tree in trees.as_slice() {
         put_calls(alloc, calls, tree)?;
@@ -77,7 +78,7 @@ fn put_factor_calls(
     product: &Factors,
 ) -> Result<(), AllocError>
     ensures { OnOk result (map syntax calls.new.items
-        ≡ map syntax calls.old.items ++ spec.calls_in_factors (factors_syntax (factors_of product.now))) }
+        ≡ map syntax calls.old.items ++ spec.calls_in_factors (factors_syntax (syntax_of_factors product.now))) }
 {
     for factor in product.as_slice() {
         put_calls(alloc, calls, &factor.1)?;
@@ -89,7 +90,7 @@ fn put_factor_calls(
 #[cycle(put)]
 fn put_term_calls(alloc: Global, calls: &mut Vec<Tree>, sum: &Terms) -> Result<(), AllocError>
     ensures { OnOk result (map syntax calls.new.items
-        ≡ map syntax calls.old.items ++ spec.calls_in_terms (terms (terms_of sum.now))) }
+        ≡ map syntax calls.old.items ++ spec.calls_in_terms (terms_syntax (syntax_of_terms sum.now))) }
 {
     for term in sum.as_slice() {
         put_calls(alloc, calls, &term.1)?;

@@ -3,12 +3,12 @@
 ghost use Rattle.std.specs.Prelude.{◌≡◌, ◌<◌, [], IfOk, List, length, option_map};
 ghost use Rattle.std.specs.Option.{option_and_then};
 ghost use Rattle.def_entry.specs.declared.key.Key.{Key as AnyKey};
-ghost use Rattle.deck.specs.PlacedKeys.{lent_key};
+ghost use Rattle.deck.specs.PlacedKeys.{borrowed_deck_key};
 ghost use Rattle.deck.specs.Tables as tables;
 ghost use Rattle.expr_tree.specs.declared.word_list.WordUse.{WordUse};
 ghost use Rattle.value_sources.specs.Cycles as spec;
-ghost use Rattle.value_sources.specs.Rows.{AreRowsOf};
-ghost use Rattle.value_sources.specs.StoredMentions.{row_in, rows_in};
+ghost use Rattle.value_sources.specs.Rows.{AreSourceRowsOf};
+ghost use Rattle.value_sources.specs.StoredMentions.{source_row_in, source_rows_in};
 
 use crate::row::Row;
 use deck::{BorrowedKey, Deck};
@@ -18,8 +18,9 @@ use std::alloc::{AllocError, Global};
 /// Returns for each row of an expression whether it closes a cycle. Such a row visits nothing, because its key is that
 /// of an entry that contains the row. Each row costs one lookup. The only error is lack of memory.
 pub fn cycle_flags(alloc: Global, deck: &Deck, rows: &[Row]) -> Result<Vec<bool>, AllocError>
-    requires { (words : List WordUse) × AreRowsOf (tables.table deck.now) words (rows_in deck.now rows.now) }
-    ensures { IfOk result (λ flags. flags.items ≡ spec.cycle_flags [] (rows_in deck.now rows.now)) }
+    requires { (words : List WordUse)
+        × AreSourceRowsOf (tables.table_of_deck deck.now) words (source_rows_in deck.now rows.now) }
+    ensures { IfOk result (λ flags. flags.items ≡ spec.source_cycle_flags [] (source_rows_in deck.now rows.now)) }
 {
     targets_are_present();
     let mut path = KeyPath::new(alloc, deck)?;
@@ -58,11 +59,11 @@ impl KeyPath {
         requires { length self.old.depths.items ≡ length deck.now.lines }
         ensures room { length self.new.depths.items ≡ length deck.now.lines }
         ensures path { IfOk result (λ flag. (path : List AnyKey)
-            → spec.IsPlacePath deck.now self.old.depths.items self.old.places.items path
-            → spec.CanFollow deck.now path (row_in deck.now row.now)
-            → (flag ≡ spec.closes_cycle path (row_in deck.now row.now))
-            × spec.IsPlacePath deck.now self.new.depths.items self.new.places.items
-            (spec.path_after path (row_in deck.now row.now))) }
+            → spec.IsSourcePlacePath deck.now self.old.depths.items self.old.places.items path
+            → spec.CanSourceRowFollow deck.now path (source_row_in deck.now row.now)
+            → (flag ≡ spec.closes_source_cycle path (source_row_in deck.now row.now))
+            × spec.IsSourcePlacePath deck.now self.new.depths.items self.new.places.items
+            (spec.source_path_after path (source_row_in deck.now row.now))) }
     {
         self.places.truncate(row.mention.depth());
         let Some(place) = line_of(deck, row.mention.key(deck)) else {
@@ -79,7 +80,8 @@ impl KeyPath {
 
 // Returns the place of the line in force for a key, if there is one.
 fn line_of(deck: &Deck, key: Option<BorrowedKey<'_>>) -> Option<usize>
-    ensures { result ≡ option_and_then (tables.last_place deck.now.settings deck.now.lines) (option_map lent_key key.entry) }
+    ensures { result ≡ option_and_then (tables.last_definition_place deck.now.settings deck.now.lines)
+        (option_map borrowed_deck_key key.entry) }
 {
     match key {
         Some(key) => deck.place_of(key.kind, key.name),
@@ -90,7 +92,7 @@ fn line_of(deck: &Deck, key: Option<BorrowedKey<'_>>) -> Option<usize>
 // Returns whether the line at a place is that of a key on the path.
 fn is_open(depths: &[usize], places: &[usize], place: usize) -> bool
     requires { place < length depths.now }
-    ensures { result ≡ spec.is_open depths.now places.now place }
+    ensures { result ≡ spec.is_source_place_open depths.now places.now place }
 {
     match places.get(depths[place]) {
         Some(other) => *other == place,

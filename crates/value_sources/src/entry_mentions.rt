@@ -2,13 +2,13 @@
 
 ghost use Rattle.std.specs.Prelude.{◌≡◌, ◌++◌, OnOk, option_map};
 ghost use Rattle.std.specs.Option.{option_copied};
-ghost use Rattle.deck.specs.Tables.{table};
-ghost use Rattle.def_entry.specs.Views.{function_view, what_view};
+ghost use Rattle.deck.specs.Tables.{table_of_deck};
+ghost use Rattle.def_entry.specs.Views.{entry_definition_view, function_entry_view};
 ghost use Rattle.expr_tree.specs.Trees.{syntax};
 ghost use Rattle.expr_tree.specs.Words.{words_in};
-ghost use Rattle.tree_eval.specs.Entries.{words_if};
+ghost use Rattle.tree_eval.specs.Entries.{eval_tree_words_if};
 ghost use Rattle.value_sources.specs.PlacedMentions.{placed_mentions};
-ghost use Rattle.value_sources.specs.StoredMentions.{placed_list};
+ghost use Rattle.value_sources.specs.StoredMentions.{placed_mention_list};
 ghost use Rattle.value_sources.specs.Uses as uses;
 
 use crate::lookup::Lookup;
@@ -29,9 +29,9 @@ impl Lookup<'_> {
         depth: usize,
         what: &What,
     ) -> Result<(), AllocError>
-        ensures { OnOk result (placed_list self.now.deck.now mentions.new.items
-            ≡ placed_list self.now.deck.now mentions.old.items
-            ++ placed_mentions self.now.deck.now depth (uses.what_uses (what_view what.now))) }
+        ensures { OnOk result (placed_mention_list self.now.deck.now mentions.new.items
+            ≡ placed_mention_list self.now.deck.now mentions.old.items
+            ++ placed_mentions self.now.deck.now depth (uses.what_source_uses (entry_definition_view what.now))) }
     {
         match what {
             What::Primitive | What::Dimensionless | What::ListOf(_) => Ok(()),
@@ -52,9 +52,9 @@ impl Lookup<'_> {
         depth: usize,
         function: &FunctionDef,
     ) -> Result<(), AllocError>
-        ensures { OnOk result (placed_list self.now.deck.now mentions.new.items
-            ≡ placed_list self.now.deck.now mentions.old.items
-            ++ placed_mentions self.now.deck.now depth (uses.function_uses (function_view function.now))) }
+        ensures { OnOk result (placed_mention_list self.now.deck.now mentions.new.items
+            ≡ placed_mention_list self.now.deck.now mentions.old.items
+            ++ placed_mentions self.now.deck.now depth (uses.function_source_uses (function_entry_view function.now))) }
     {
         let in_unit = function.in_unit.as_ref();
         self.put_tree_if(tried, mentions, at(depth, Site::InUnit), in_unit)?;
@@ -74,9 +74,9 @@ impl Lookup<'_> {
         depth: usize,
         target: &Text,
     ) -> Result<(), AllocError>
-        ensures { OnOk result (placed_list self.now.deck.now mentions.new.items
-            ≡ placed_list self.now.deck.now mentions.old.items
-            ++ placed_mentions self.now.deck.now depth (uses.alias_uses target.now)) }
+        ensures { OnOk result (placed_mention_list self.now.deck.now mentions.new.items
+            ≡ placed_mention_list self.now.deck.now mentions.old.items
+            ++ placed_mentions self.now.deck.now depth (uses.alias_source_uses target.now)) }
     {
         let word = WordUse::new(target.as_bytes(), WordKind::Inverse);
         self.put_word(tried, mentions, at(depth, Site::AliasTarget), &word)
@@ -90,10 +90,10 @@ impl Lookup<'_> {
         location: Location,
         tree: Option<&Tree>,
     ) -> Result<(), AllocError>
-        ensures { OnOk result (placed_list self.now.deck.now mentions.new.items
-            ≡ placed_list self.now.deck.now mentions.old.items
+        ensures { OnOk result (placed_mention_list self.now.deck.now mentions.new.items
+            ≡ placed_mention_list self.now.deck.now mentions.old.items
             ++ placed_mentions self.now.deck.now location.depth
-            (uses.uses_at location.site (words_if (option_map syntax (option_copied tree.entry))))) }
+            (uses.source_uses_at location.site (eval_tree_words_if (option_map syntax (option_copied tree.entry))))) }
     {
         match tree {
             Some(tree) => self.put_tree(tried, mentions, location, tree),
@@ -109,10 +109,10 @@ impl Lookup<'_> {
         location: Location,
         tree: &Tree,
     ) -> Result<(), AllocError>
-        ensures { OnOk result (placed_list self.now.deck.now mentions.new.items
-            ≡ placed_list self.now.deck.now mentions.old.items
+        ensures { OnOk result (placed_mention_list self.now.deck.now mentions.new.items
+            ≡ placed_mention_list self.now.deck.now mentions.old.items
             ++ placed_mentions self.now.deck.now location.depth
-            (uses.uses_at location.site (words_in (syntax tree.now)))) }
+            (uses.source_uses_at location.site (words_in (syntax tree.now)))) }
     {
         let words = words(self.alloc, tree)?;
         self.put_mentions(tried, mentions, location, &words)

@@ -1,11 +1,12 @@
 //! The search for the step at which an expression has no value.
 
 ghost use Rattle.std.specs.Prelude.{◌≡◌, IfOk, Some};
-ghost use Rattle.deck.specs.Tables.{table};
-ghost use Rattle.expr_tree.specs.Trees.{factors_of, factors_syntax, members, syntax, terms, terms_of, trees_of};
+ghost use Rattle.deck.specs.Tables.{table_of_deck};
+ghost use Rattle.expr_tree.specs.Trees.{factors_syntax, members_syntax, syntax, syntax_of_factors, syntax_of_terms};
+ghost use Rattle.expr_tree.specs.Trees.{syntax_of_trees, terms_syntax};
 ghost use Rattle.expr_tree.specs.Syntax as tree_of;
 ghost use Rattle.value_sources.specs.FailedSteps as spec;
-ghost use Rattle.value_sources.specs.Joinings.{IsJoinProgress};
+ghost use Rattle.value_sources.specs.Joinings.{IsFailedStepProgress};
 
 use crate::failure::FailedStep;
 use crate::joining::{Progress, join, quotient_step, step_of_scale, step_of_sign};
@@ -28,7 +29,7 @@ pub fn failed_step<L: Ledger>(
     steps: &mut Steps<L>,
 ) -> Result<Option<FailedStep>, AllocError>
     ensures deck { live.new.deck ≡ live.old.deck }
-    ensures step { IfOk result (λ step. step ≡ spec.failed_step (table live.old.deck) (syntax tree.now)) }
+    ensures step { IfOk result (λ step. step ≡ spec.failed_step (table_of_deck live.old.deck) (syntax tree.now)) }
 {
     view_law();
     match tree {
@@ -68,9 +69,9 @@ fn reach<L: Ledger>(
     steps: &mut Steps<L>,
 ) -> Result<Progress, AllocError>
     ensures deck { live.new.deck ≡ live.old.deck }
-    ensures reached { IfOk result (λ reached. IsJoinProgress
-        (spec.value_of_tree (table live.old.deck) (syntax tree.now))
-        (spec.failed_step (table live.old.deck) (syntax tree.now)) reached) }
+    ensures reached { IfOk result (λ reached. IsFailedStepProgress
+        (spec.source_value_of_tree (table_of_deck live.old.deck) (syntax tree.now))
+        (spec.failed_step (table_of_deck live.old.deck) (syntax tree.now)) reached) }
 {
     match value(alloc, live, tree, steps)? {
         Some(value) => Ok(Progress::Value(value)),
@@ -88,9 +89,10 @@ fn called_step<L: Ledger>(
     steps: &mut Steps<L>,
 ) -> Result<Option<FailedStep>, AllocError>
     ensures deck { live.new.deck ≡ live.old.deck }
-    ensures step { IfOk result (λ step. step ≡ spec.failed_after
-        (spec.value_of_tree (table live.old.deck) (syntax operand.now))
-        (spec.failed_step (table live.old.deck) (syntax operand.now)) (λ v. Some (FailedStep.Called word.now v))) }
+    ensures step { IfOk result (λ step. step ≡ spec.failed_step_after
+        (spec.source_value_of_tree (table_of_deck live.old.deck) (syntax operand.now))
+        (spec.failed_step (table_of_deck live.old.deck) (syntax operand.now))
+        (λ v. Some (FailedStep.Called word.now v))) }
 {
     match reach(alloc, live, operand, steps)? {
         Progress::Value(value) => Ok(Some(FailedStep::Called(word.copy(alloc)?, value))),
@@ -108,9 +110,10 @@ fn inverted_step<L: Ledger>(
     steps: &mut Steps<L>,
 ) -> Result<Option<FailedStep>, AllocError>
     ensures deck { live.new.deck ≡ live.old.deck }
-    ensures step { IfOk result (λ step. step ≡ spec.failed_after
-        (spec.value_of_tree (table live.old.deck) (syntax operand.now))
-        (spec.failed_step (table live.old.deck) (syntax operand.now)) (λ v. Some (FailedStep.Inverted word.now v))) }
+    ensures step { IfOk result (λ step. step ≡ spec.failed_step_after
+        (spec.source_value_of_tree (table_of_deck live.old.deck) (syntax operand.now))
+        (spec.failed_step (table_of_deck live.old.deck) (syntax operand.now))
+        (λ v. Some (FailedStep.Inverted word.now v))) }
 {
     match reach(alloc, live, operand, steps)? {
         Progress::Value(value) => Ok(Some(FailedStep::Inverted(word.copy(alloc)?, value))),
@@ -128,10 +131,10 @@ fn product_step<L: Ledger>(
     steps: &mut Steps<L>,
 ) -> Result<Option<FailedStep>, AllocError>
     ensures deck { live.new.deck ≡ live.old.deck }
-    ensures step { IfOk result (λ step. step ≡ spec.failed_product
-        (spec.value_of_tree (table live.old.deck) (tree_of.Word word.now))
-        (spec.value_of_tree (table live.old.deck) (syntax operand.now))
-        (spec.failed_step (table live.old.deck) (syntax operand.now))) }
+    ensures step { IfOk result (λ step. step ≡ spec.failed_step_of_product
+        (spec.source_value_of_tree (table_of_deck live.old.deck) (tree_of.Word word.now))
+        (spec.source_value_of_tree (table_of_deck live.old.deck) (syntax operand.now))
+        (spec.failed_step (table_of_deck live.old.deck) (syntax operand.now))) }
 {
     view_law();
     let word = Tree::Word(word.copy(alloc)?);
@@ -154,7 +157,7 @@ fn power_step<L: Ledger>(
     steps: &mut Steps<L>,
 ) -> Result<Option<FailedStep>, AllocError>
     ensures deck { live.new.deck ≡ live.old.deck }
-    ensures step { IfOk result (λ step. step ≡ spec.failed_step (table live.old.deck)
+    ensures step { IfOk result (λ step. step ≡ spec.failed_step (table_of_deck live.old.deck)
         (tree_of.Power (syntax base.now) (syntax exponent.now))) }
 {
     let left = match reach(alloc, live, base, steps)? {
@@ -176,8 +179,8 @@ fn member_step<L: Ledger>(
     steps: &mut Steps<L>,
 ) -> Result<Option<FailedStep>, AllocError>
     ensures deck { live.new.deck ≡ live.old.deck }
-    ensures step { IfOk result (λ step. step ≡ spec.failed_step (table live.old.deck)
-        (tree_of.Juxtaposed (members (trees_of trees.now)))) }
+    ensures step { IfOk result (λ step. step ≡ spec.failed_step (table_of_deck live.old.deck)
+        (tree_of.Juxtaposed (members_syntax (syntax_of_trees trees.now)))) }
 {
     let mut running = None;
     for tree in trees.as_slice() {
@@ -199,8 +202,8 @@ fn factor_step<L: Ledger>(
     steps: &mut Steps<L>,
 ) -> Result<Option<FailedStep>, AllocError>
     ensures deck { live.new.deck ≡ live.old.deck }
-    ensures step { IfOk result (λ step. step ≡ spec.failed_step (table live.old.deck)
-        (tree_of.Product (factors_syntax (factors_of product.now)))) }
+    ensures step { IfOk result (λ step. step ≡ spec.failed_step (table_of_deck live.old.deck)
+        (tree_of.Product (factors_syntax (syntax_of_factors product.now)))) }
 {
     let mut running = None;
     for factor in product.as_slice() {
@@ -222,8 +225,8 @@ fn term_step<L: Ledger>(
     steps: &mut Steps<L>,
 ) -> Result<Option<FailedStep>, AllocError>
     ensures deck { live.new.deck ≡ live.old.deck }
-    ensures step { IfOk result (λ step. step ≡ spec.failed_step (table live.old.deck)
-        (tree_of.Sum (terms (terms_of sum.now)))) }
+    ensures step { IfOk result (λ step. step ≡ spec.failed_step (table_of_deck live.old.deck)
+        (tree_of.Sum (terms_syntax (syntax_of_terms sum.now)))) }
 {
     let mut running = None;
     for term in sum.as_slice() {

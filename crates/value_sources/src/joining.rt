@@ -1,12 +1,12 @@
 //! How the search for a failed step joins the members of an expression.
 
 ghost use Rattle.std.specs.Prelude.{◌≡◌, IfOk};
-ghost use Rattle.frac128.specs.Decimals.{value_of_decimal};
-ghost use Rattle.quantity.specs.Answers.{IsAnswer};
-ghost use Rattle.tree_eval.specs.Expansion.{scale_step, sign_step};
-ghost use Rattle.tree_eval.specs.Steps.{step_of};
+ghost use Rattle.frac128.specs.Decimals.{fraction_of_decimal};
+ghost use Rattle.quantity.specs.Answers.{IsQuantityAnswer};
+ghost use Rattle.tree_eval.specs.Expansion.{scale_operand_step, sign_operand_step};
+ghost use Rattle.tree_eval.specs.Steps.{operand_step};
 ghost use Rattle.value_sources.specs.FailedSteps as spec;
-ghost use Rattle.value_sources.specs.Joinings.{IsJoined};
+ghost use Rattle.value_sources.specs.Joinings.{IsJoinedUpToFailedStep};
 
 use crate::failure::FailedStep;
 use expr_tree::{Quotient, Scale, Sign};
@@ -30,7 +30,7 @@ pub(crate) fn join(
     running: Option<Quantity>,
     member: Progress,
 ) -> Result<Progress, AllocError>
-    ensures { IfOk result (λ joined. IsJoined step running member joined) }
+    ensures { IfOk result (λ joined. IsJoinedUpToFailedStep step running member joined) }
 {
     let Progress::Value(member) = member else {
         return Ok(member);
@@ -52,7 +52,7 @@ fn joined_by(
     left: &Quantity,
     member: &Quantity,
 ) -> Result<Quantity, QuantityFault>
-    ensures { IsAnswer result (step_of step left.now member.now) }
+    ensures { IsQuantityAnswer result (operand_step step left.now member.now) }
 {
     match step {
         Step::Multiply => left.mul(alloc, member),
@@ -64,7 +64,8 @@ fn joined_by(
 
 /// Returns the step from one numeral to its quotient by another, if both have values.
 pub(crate) fn quotient_step(alloc: Global, quotient: &Quotient) -> Option<FailedStep>
-    ensures { result ≡ spec.quotient_step (value_of_decimal quotient.now.top) (value_of_decimal quotient.now.bottom) }
+    ensures { result ≡ spec.failed_step_of_quotient (fraction_of_decimal quotient.now.top)
+        (fraction_of_decimal quotient.now.bottom) }
 {
     match (quotient.top.value(), quotient.bottom.value()) {
         (Ok(top), Ok(bottom)) => {
@@ -78,7 +79,7 @@ pub(crate) fn quotient_step(alloc: Global, quotient: &Quotient) -> Option<Failed
 
 /// Returns the step to a member of a product.
 pub(crate) fn step_of_scale(scale: Scale) -> Step
-    ensures { result ≡ scale_step scale }
+    ensures { result ≡ scale_operand_step scale }
 {
     match scale {
         Scale::Multiply => Step::Multiply,
@@ -88,7 +89,7 @@ pub(crate) fn step_of_scale(scale: Scale) -> Step
 
 /// Returns the step to a member of a sum.
 pub(crate) fn step_of_sign(sign: Sign) -> Step
-    ensures { result ≡ sign_step sign }
+    ensures { result ≡ sign_operand_step sign }
 {
     match sign {
         Sign::Plus => Step::Add,

@@ -2,10 +2,10 @@
 
 ghost use Rattle.value_sources.specs.Examples.{SourceExamplesLaw};
 ghost use Rattle.value_sources.specs.Laws.{SourceRowsLaw};
-ghost use Rattle.value_sources.specs.StepExamples.{StepExamplesLaw};
+ghost use Rattle.value_sources.specs.StepExamples.{FailedStepExamplesLaw};
 ghost use Rattle.value_sources.specs.StepFaults.{FailedStepLaw};
-ghost use Rattle.value_sources.specs.Uses.{UsesLaw};
-ghost use Rattle.value_sources.specs.Values.{ValueLaw};
+ghost use Rattle.value_sources.specs.Uses.{SourceUsesLaw};
+ghost use Rattle.value_sources.specs.Values.{SourceValueLaw};
 
 use table_names::{closed_law, closed_meaning_law, kind_law};
 
@@ -17,7 +17,7 @@ pub fn rows_law()
 
 /// The words of an entry are those of its trees, tree after tree.
 pub fn uses_law()
-    ensures { UsesLaw }
+    ensures { SourceUsesLaw }
 {}
 
 /// A small table has the rows that were found by hand.
@@ -27,7 +27,7 @@ pub fn examples_law()
 
 /// The value of the expression that `value_tree` returns is the outcome of the key.
 pub fn value_law()
-    ensures { ValueLaw }
+    ensures { SourceValueLaw }
 {
     closed_law();
     closed_meaning_law();
@@ -43,5 +43,5 @@ pub fn failed_step_law()
 
 /// An expression has the calls, and another the failed step, that were found by hand.
 pub fn step_examples_law()
-    ensures { StepExamplesLaw }
+    ensures { FailedStepExamplesLaw }
 {}

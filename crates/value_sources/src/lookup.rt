@@ -1,10 +1,10 @@
 //! The lookup of words in a deck.
 
 ghost use Rattle.std.specs.Prelude.{◌≡◌, ◌-◌, ◌≤◌, IfOk, length};
-ghost use Rattle.deck.specs.Tables.{table};
-ghost use Rattle.table_names.specs.Leads.{targets};
+ghost use Rattle.deck.specs.Tables.{table_of_deck};
+ghost use Rattle.table_names.specs.Leads.{table_word_targets};
 ghost use Rattle.value_sources.specs.Leads as spec;
-ghost use Rattle.value_sources.specs.Leads.{key_at_place, lead_keys};
+ghost use Rattle.value_sources.specs.Leads.{source_key_at_place, source_lead_keys};
 
 use crate::deck_table::DeckTable;
 use crate::tried_keys::TriedKeys;
@@ -31,7 +31,8 @@ impl<'a> Lookup<'a> {
         tried: &mut TriedKeys,
         word: &WordUse,
     ) -> Result<Lead, AllocError>
-        ensures { IfOk result (λ lead. targets (table self.now.deck.now) word.now ≡ lead_keys lead) }
+        ensures { IfOk result (λ lead. table_word_targets (table_of_deck self.now.deck.now) word.now
+            ≡ source_lead_keys lead) }
     {
         lookup_law();
         tried.clear();
@@ -51,7 +52,7 @@ impl<'a> Lookup<'a> {
     fn last_key(&self, tried: &TriedKeys, back: usize) -> Result<Key, AllocError>
         requires some { 1 ≤ back }
         requires many { back ≤ length tried.now }
-        ensures { IfOk result (λ key. key ≡ key_at_place tried.now (length tried.now - back)) }
+        ensures { IfOk result (λ key. key ≡ source_key_at_place tried.now (length tried.now - back)) }
     {
         let place = tried.len() - back;
         let kind = tried.kind(place);
@@ -62,7 +63,7 @@ impl<'a> Lookup<'a> {
 
 /// Returns the kind of the key that the lookup of a word tries first.
 pub(crate) fn first_kind(kind: WordKind) -> Kind
-    ensures { result ≡ spec.first_kind kind }
+    ensures { result ≡ spec.first_kind_of_mentioned_word kind }
 {
     match kind {
         WordKind::Plain => Kind::Unit,

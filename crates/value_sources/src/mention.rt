@@ -1,8 +1,8 @@
 //! Words together with the keys that they lead to.
 
 ghost use Rattle.std.specs.Prelude.{◌≡◌, option_map};
-ghost use Rattle.deck.specs.Decks.{Contents};
-ghost use Rattle.deck.specs.PlacedKeys.{lent_key};
+ghost use Rattle.deck.specs.Decks.{DeckContents};
+ghost use Rattle.deck.specs.PlacedKeys.{borrowed_deck_key};
 ghost use Rattle.expr_tree.specs.Names as names;
 ghost use Rattle.value_sources.specs.StoredMentions.{mention_in};
 
@@ -35,7 +35,7 @@ impl StoredMention {
     /// The number of entries that contain the word: 0 in the expression itself, 1 in the entry of a key of the
     /// expression.
     pub fn depth(&self) -> usize
-        ensures { (d : Contents) → result ≡ (mention_in d self.now).depth }
+        ensures { (d : DeckContents) → result ≡ (mention_in d self.now).depth }
     {
         self.location.depth
     }
@@ -43,7 +43,7 @@ impl StoredMention {
     /// The tree that contains the word. It belongs to the entry of the last preceding visited key whose depth is one
     /// less.
     pub fn site(&self) -> Site
-        ensures { (d : Contents) → result ≡ (mention_in d self.now).site }
+        ensures { (d : DeckContents) → result ≡ (mention_in d self.now).site }
     {
         self.location.site
     }
@@ -61,7 +61,7 @@ impl StoredMention {
 
     /// Whether the word is alone, before an operand in parentheses, or after a `~`.
     pub fn word_kind(&self) -> WordKind
-        ensures { (d : Contents) → result ≡ (mention_in d self.now).word.kind }
+        ensures { (d : DeckContents) → result ≡ (mention_in d self.now).word.kind }
     {
         self.word_kind
     }
@@ -75,14 +75,14 @@ impl StoredMention {
 
     /// How the word leads to the key.
     pub fn resolution(&self) -> Resolution
-        ensures { (d : Contents) → result ≡ (mention_in d self.now).resolution }
+        ensures { (d : DeckContents) → result ≡ (mention_in d self.now).resolution }
     {
         self.resolution
     }
 
     /// The key that the word leads to, or `None` if the word is unknown.
     pub fn key<'a>(&self, deck: &'a Deck) -> Option<BorrowedKey<'a>>
-        ensures { option_map lent_key result ≡ (mention_in deck.now self.now).target }
+        ensures { option_map borrowed_deck_key result ≡ (mention_in deck.now self.now).target }
     {
         match self.place {
             Some(place) => deck.key_at(place),

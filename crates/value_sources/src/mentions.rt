@@ -2,15 +2,15 @@
 
 ghost use Rattle.std.specs.Prelude.{◌≡◌, ◌++◌, ◌∷◌, [], Contains, IfOk, None, OnOk, Some, reverse, true};
 ghost use Rattle.def_entry.specs.declared.key.Key.{Key as AnyKey};
-ghost use Rattle.deck.specs.Decks.{Contents};
-ghost use Rattle.deck.specs.Tables.{is_present, table};
-ghost use Rattle.table_names.specs.Leads.{targets};
-ghost use Rattle.value_sources.specs.Leads.{lead_keys};
+ghost use Rattle.deck.specs.Decks.{DeckContents};
+ghost use Rattle.deck.specs.Tables.{is_entry_present, table_of_deck};
+ghost use Rattle.table_names.specs.Leads.{table_word_targets};
+ghost use Rattle.value_sources.specs.Leads.{source_lead_keys};
 ghost use Rattle.value_sources.specs.Mentions as spec;
-ghost use Rattle.value_sources.specs.PlacedMentions.{placed_mentions, placed_to, with_place};
-ghost use Rattle.value_sources.specs.StoredMentions.{placed_in, placed_list};
+ghost use Rattle.value_sources.specs.PlacedMentions.{mention_with_place, placed_mentions, placed_mentions_to};
+ghost use Rattle.value_sources.specs.StoredMentions.{placed_mention_in, placed_mention_list};
 ghost use Rattle.value_sources.specs.declared.resolution.Resolution.TheVariants.{Name};
-ghost use Rattle.value_sources.specs.Uses.{use_at, uses_at};
+ghost use Rattle.value_sources.specs.Uses.{source_use_at, source_uses_at};
 
 use crate::lookup::{Lookup, first_kind};
 use crate::mention::{Location, StoredMention};
@@ -33,9 +33,9 @@ impl<'a> Lookup<'a> {
         location: Location,
         words: &Words,
     ) -> Result<(), AllocError>
-        ensures { OnOk result (placed_list self.now.deck.now mentions.new.items
-            ≡ placed_list self.now.deck.now mentions.old.items
-            ++ placed_mentions self.now.deck.now location.depth (uses_at location.site words.now)) }
+        ensures { OnOk result (placed_mention_list self.now.deck.now mentions.new.items
+            ≡ placed_mention_list self.now.deck.now mentions.old.items
+            ++ placed_mentions self.now.deck.now location.depth (source_uses_at location.site words.now)) }
     {
         for word in words.as_slice() {
             self.put_word(tried, mentions, location, word)?;
@@ -52,10 +52,10 @@ impl<'a> Lookup<'a> {
         location: Location,
         word: &WordUse,
     ) -> Result<(), AllocError>
-        ensures { OnOk result (placed_list self.now.deck.now mentions.new.items
-            ≡ placed_list self.now.deck.now mentions.old.items
-            ++ placed_to self.now.deck.now location.depth (use_at location.site word.now)
-            (targets (table self.now.deck.now) word.now)) }
+        ensures { OnOk result (placed_mention_list self.now.deck.now mentions.new.items
+            ≡ placed_mention_list self.now.deck.now mentions.old.items
+            ++ placed_mentions_to self.now.deck.now location.depth (source_use_at location.site word.now)
+            (table_word_targets (table_of_deck self.now.deck.now) word.now)) }
     {
         lookup_law();
         targets_are_present();
@@ -74,11 +74,12 @@ impl<'a> Lookup<'a> {
         word: &WordUse,
         lead: Lead,
     ) -> Result<(), AllocError>
-        ensures { OnOk result (((n : AnyKey) → Contains (lead_keys lead) n
-            → is_present (table self.now.deck.now) n ≡ true)
-            → placed_list self.now.deck.now mentions.new.items
-            ≡ placed_list self.now.deck.now mentions.old.items
-            ++ placed_to self.now.deck.now location.depth (use_at location.site word.now) (lead_keys lead)) }
+        ensures { OnOk result (((n : AnyKey) → Contains (source_lead_keys lead) n
+            → is_entry_present (table_of_deck self.now.deck.now) n ≡ true)
+            → placed_mention_list self.now.deck.now mentions.new.items
+            ≡ placed_mention_list self.now.deck.now mentions.old.items
+            ++ placed_mentions_to self.now.deck.now location.depth (source_use_at location.site word.now)
+            (source_lead_keys lead)) }
     {
         match lead {
             Lead::Nowhere => {
@@ -107,10 +108,10 @@ impl<'a> Lookup<'a> {
         word: &WordUse,
         key: &Key,
     ) -> Result<StoredMention, AllocError>
-        ensures { IfOk result (λ mention. is_present (table self.now.deck.now) key.now ≡ true
-            → placed_in self.now.deck.now mention ≡ with_place self.now.deck.now
-            (spec.mention_by (spec.sole_resolution word.now key.now) location.depth (use_at location.site word.now)
-            key.now)) }
+        ensures { IfOk result (λ mention. is_entry_present (table_of_deck self.now.deck.now) key.now ≡ true
+            → placed_mention_in self.now.deck.now mention ≡ mention_with_place self.now.deck.now
+            (spec.mention_by (spec.sole_mention_resolution word.now key.now) location.depth
+            (source_use_at location.site word.now) key.now)) }
     {
         let place = self.deck.last_place(key);
         if word.text() == key.name.as_bytes() {
@@ -179,8 +180,8 @@ fn mention(
 
 // Appends a mention.
 fn put_mention(mentions: &mut Vec<StoredMention>, mention: StoredMention) -> Result<(), AllocError>
-    ensures { OnOk result ((d : Contents) → placed_list d mentions.new.items
-        ≡ placed_list d mentions.old.items ++ placed_in d mention ∷ []) }
+    ensures { OnOk result ((d : DeckContents) → placed_mention_list d mentions.new.items
+        ≡ placed_mention_list d mentions.old.items ++ placed_mention_in d mention ∷ []) }
 {
     mentions.push(mention)?;
     Ok(())

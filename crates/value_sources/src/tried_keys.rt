@@ -2,7 +2,7 @@
 
 ghost use Rattle.std.specs.Prelude.{◌≡◌, ◌<◌, ◌++◌, ◌∷◌, [], length, OnOk};
 ghost use Rattle.def_entry.specs.Keys.{key};
-ghost use Rattle.value_sources.specs.Leads.{key_at_place};
+ghost use Rattle.value_sources.specs.Leads.{source_key_at_place};
 
 use def_entry::Kind;
 use name_lookup::{Looking, Present};
@@ -29,13 +29,13 @@ struct TriedKey {
 impl Model for TriedKeys {
     ghost use Rattle.std.specs.Prelude.{List};
     ghost use Rattle.def_entry.specs.declared.key.Key.{Key};
-    ghost use Rattle.value_sources.specs.TriedKeys.{AreRangesWithin, keys_in};
+    ghost use Rattle.value_sources.specs.TriedKeys.{AreTriedSourceRangesWithin, tried_source_keys};
 
     ghost Value = { List Key };
 
-    ghost view = { λ t. keys_in t.names.items t.keys.items };
+    ghost view = { λ t. tried_source_keys t.names.items t.keys.items };
 
-    ghost invariant = { λ t. AreRangesWithin t.names.items t.keys.items };
+    ghost invariant = { λ t. AreTriedSourceRangesWithin t.names.items t.keys.items };
 }
 
 impl Looking for TriedKeys {
@@ -80,7 +80,7 @@ impl TriedKeys {
     /// Returns the kind of the key at a place.
     pub(crate) fn kind(&self, place: usize) -> Kind
         requires { place < length self.now }
-        ensures { result ≡ (key_at_place self.now place).kind }
+        ensures { result ≡ (source_key_at_place self.now place).kind }
     {
         self.keys[place].kind
     }
@@ -88,7 +88,7 @@ impl TriedKeys {
     /// Returns the name of the key at a place.
     pub(crate) fn name(&self, place: usize) -> &[u8]
         requires { place < length self.now }
-        ensures { result.now ≡ (key_at_place self.now place).name }
+        ensures { result.now ≡ (source_key_at_place self.now place).name }
     {
         let tried = self.keys[place];
         &self.names[tried.start..tried.end]

@@ -8,10 +8,10 @@ ghost use Rattle.expr_tree.specs.Words.{words_in};
 ghost use Rattle.expr_tree.specs.declared.word_list.WordUse.{WordUse as AnyWord};
 ghost use Rattle.value_sources.specs.Rows as rows_spec;
 ghost use Rattle.value_sources.specs.PlacedMentions.{placed_mentions};
-ghost use Rattle.value_sources.specs.StoredMentions.{mention_in, placed_list, rows_in};
+ghost use Rattle.value_sources.specs.StoredMentions.{mention_in, placed_mention_list, source_rows_in};
 ghost use Rattle.value_sources.specs.declared.site.Site.TheVariants as site;
-ghost use Rattle.value_sources.specs.Uses.{key_uses, uses_at};
-ghost use Rattle.value_sources.specs.Visits.{unmarked_place};
+ghost use Rattle.value_sources.specs.Uses.{key_source_uses, source_uses_at};
+ghost use Rattle.value_sources.specs.Visits.{unmarked_mention_place};
 ghost use Rattle.value_sources.specs.Walks as spec;
 
 use crate::lookup::Lookup;
@@ -42,7 +42,7 @@ pub struct Walk {
 impl Walk {
     /// Returns the walk over an expression before its first row. The only error is lack of memory.
     pub fn new(alloc: Global, deck: &Deck, tree: &Tree) -> Result<Walk, AllocError>
-        ensures { IfOk result (λ walk. spec.IsWalk deck.now (words_in (syntax tree.now)) [] walk) }
+        ensures { IfOk result (λ walk. spec.IsSourceWalk deck.now (words_in (syntax tree.now)) [] walk) }
     {
         targets_are_present();
         let lookup = Lookup { alloc, deck };
@@ -60,8 +60,8 @@ impl Walk {
     /// Returns the next row, or `None` after the last one. The deck must be that of the whole walk. The cost is
     /// proportional to the words of the entry, if the row visits its key. The only error is lack of memory.
     pub fn next(&mut self, alloc: Global, deck: &Deck) -> Result<Option<Row>, AllocError>
-        ensures { IfOk result (λ next. (words : List AnyWord) (rows : List rows_spec.Row)
-            → spec.IsWalk deck.now words rows self.old → spec.IsNext deck.now words rows self.new next) }
+        ensures { IfOk result (λ next. (words : List AnyWord) (rows : List rows_spec.SourceRow)
+            → spec.IsSourceWalk deck.now words rows self.old → spec.IsNextSourceRow deck.now words rows self.new next) }
     {
         targets_are_present();
         let Some(mention) = self.pending.pop() else {
@@ -94,8 +94,8 @@ impl Walk {
 
 /// Returns all rows of an expression. The only error is lack of memory.
 pub fn rows(alloc: Global, deck: &Deck, tree: &Tree) -> Result<Vec<Row>, AllocError>
-    ensures { IfOk result (λ rows. rows_spec.AreRowsOf (tables.table deck.now) (words_in (syntax tree.now))
-        (rows_in deck.now rows.items)) }
+    ensures { IfOk result (λ rows. rows_spec.AreSourceRowsOf (tables.table_of_deck deck.now)
+        (words_in (syntax tree.now)) (source_rows_in deck.now rows.items)) }
 {
     let mut walk = Walk::new(alloc, deck, tree)?;
     let mut rows = Vec::new(alloc);
@@ -111,8 +111,8 @@ fn first_mentions(
     tried: &mut TriedKeys,
     tree: &Tree,
 ) -> Result<Vec<StoredMention>, AllocError>
-    ensures { IfOk result (λ pending. reverse (placed_list lookup.now.deck.now pending.items)
-        ≡ placed_mentions lookup.now.deck.now 0 (uses_at site.Expression (words_in (syntax tree.now)))) }
+    ensures { IfOk result (λ pending. reverse (placed_mention_list lookup.now.deck.now pending.items)
+        ≡ placed_mentions lookup.now.deck.now 0 (source_uses_at site.Expression (words_in (syntax tree.now)))) }
 {
     let location = Location {
         depth: 0,
@@ -127,7 +127,7 @@ fn first_mentions(
 
 // Returns a mark for each line, none of which is set.
 fn no_marks(lookup: &Lookup<'_>) -> Result<Vec<bool>, AllocError>
-    ensures { IfOk result (λ marks. spec.AreMarked lookup.now.deck.now marks.items []) }
+    ensures { IfOk result (λ marks. spec.AreVisitedKeysMarked lookup.now.deck.now marks.items []) }
 {
     let mut marks = Vec::new(lookup.alloc);
     marks.resize(lookup.deck.lines().len(), false)?;
@@ -136,7 +136,7 @@ fn no_marks(lookup: &Lookup<'_>) -> Result<Vec<bool>, AllocError>
 
 // Returns the place of the line in force for the key of a mention, if the mention has a key that was not visited.
 fn unvisited_place(marks: &[bool], place: Option<usize>) -> Option<usize>
-    ensures { result ≡ unmarked_place marks.now place }
+    ensures { result ≡ unmarked_mention_place marks.now place }
 {
     let Some(place) = place else {
         return None;
@@ -166,9 +166,9 @@ fn put_found(
     place: usize,
 ) -> Result<(), AllocError>
     ensures { OnOk result ((n : AnyKey) → (mention_in lookup.now.deck.now mention.now).target ≡ Some n
-        → placed_list lookup.now.deck.now found.new.items
+        → placed_mention_list lookup.now.deck.now found.new.items
         ≡ placed_mentions lookup.now.deck.now (mention.now.location.depth + 1)
-        (key_uses (tables.table lookup.now.deck.now) n)) }
+        (key_source_uses (tables.table_of_deck lookup.now.deck.now) n)) }
 {
     // No memory holds so many entries that the depth of a word would not fit.
     let Some(depth) = mention.location.depth.checked_add(1) else {

@@ -1,6 +1,5 @@
 -- Lists whose first items are renewed in place.
-use Rattle.std.proofs.Common.{◌≡◌, ◌+◌, ◌++◌, ◌<◌, ℕ, zero, suc, List, [], ◌∷◌, length, map, take, drop, get_or}
-use Rattle.std.proofs.Common.{set}
+use Rattle.std.proofs.Common.{◌≡◌, ◌+◌, ◌++◌, ◌<◌, ℕ, zero, suc, List, [], ◌∷◌, length, map, take, drop, get_or, set}
 use Rattle.std.proofs.Common.{refl, ap, subst, arith}
 
 module _ {A : Type 0} (f : A → A) where

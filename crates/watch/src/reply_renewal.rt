@@ -2,10 +2,10 @@
 
 ghost use Rattle.std.specs.Prelude.{◌≡◌, ◌++◌, [], IfOk, OnErr, OnOk, if◌then◌else◌, map};
 ghost use Rattle.deck.specs.Tables as tables;
-ghost use Rattle.live_table.specs.Calls.{AreQueries};
-ghost use Rattle.live_table.specs.TableView.{IsRightTable};
-ghost use Rattle.reply.specs.Options.{IsPrintable};
-ghost use Rattle.watch.specs.Calls.{IsPartlyRenewed};
+ghost use Rattle.live_table.specs.Calls.{AreLiveQueries};
+ghost use Rattle.live_table.specs.TableView.{IsRightLiveView};
+ghost use Rattle.reply.specs.Options.{AreReplyOptionsPrintable};
+ghost use Rattle.watch.specs.Calls.{AreWatchesPartlyRenewed};
 ghost use Rattle.watch.specs.Changes.{watch_notice, watch_report};
 ghost use Rattle.watch.specs.WatchViews as spec;
 
@@ -25,15 +25,17 @@ pub(crate) fn renew_all<L: Ledger>(
     options: &Options,
     steps: &mut Steps<L>,
 ) -> Result<Vec<u8>, AllocError>
-    requires printable { IsPrintable options.now }
-    requires right { IsRightTable table.old }
+    requires printable { AreReplyOptionsPrintable options.now }
+    requires right { IsRightLiveView table.old }
     ensures report { IfOk result (λ report. report.items
-        ≡ watch_report (map (spec.change_of (tables.table table.old.deck) options.now) watches.old.items)) }
+        ≡ watch_report (map (spec.change_of (tables.table_of_deck table.old.deck) options.now) watches.old.items)) }
     ensures renewed { OnOk result (watches.new.items
-        ≡ map (spec.with_current_reply (tables.table table.old.deck) options.now) watches.old.items) }
+        ≡ map (spec.with_current_reply (tables.table_of_deck table.old.deck) options.now) watches.old.items) }
     ensures partly { OnErr result
-        (IsPartlyRenewed (tables.table table.old.deck) options.now watches.old.items watches.new.items) }
-    ensures queries { AreQueries (spec.all_queries (tables.table table.old.deck) options.now watches.old.items)
+        (AreWatchesPartlyRenewed (tables.table_of_deck table.old.deck) options.now watches.old.items
+        watches.new.items) }
+    ensures queries { AreLiveQueries
+        (spec.all_queries (tables.table_of_deck table.old.deck) options.now watches.old.items)
         result table.old table.new steps.old steps.new }
     ensures deck { table.new.deck ≡ table.old.deck }
 {

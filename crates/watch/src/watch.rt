@@ -2,8 +2,8 @@
 
 ghost use Rattle.std.specs.Prelude.{◌≡◌, IfOk, OnErr, OnOk};
 ghost use Rattle.deck.specs.Tables as tables;
-ghost use Rattle.live_table.specs.Calls.{AreQueries};
-ghost use Rattle.reply.specs.Options.{IsPrintable};
+ghost use Rattle.live_table.specs.Calls.{AreLiveQueries};
+ghost use Rattle.reply.specs.Options.{AreReplyOptionsPrintable};
 ghost use Rattle.watch.specs.Changes.{is_news};
 ghost use Rattle.watch.specs.WatchViews as spec;
 
@@ -37,11 +37,11 @@ fn reply_bytes<L: Ledger>(
     subject: &Subject<'_>,
     steps: &mut Steps<L>,
 ) -> Result<Text, AllocError>
-    requires { IsPrintable options.now }
-    ensures bytes { IfOk result (λ bytes. bytes ≡ spec.reply_to (tables.table table.old.deck) options.now
+    requires { AreReplyOptionsPrintable options.now }
+    ensures bytes { IfOk result (λ bytes. bytes ≡ spec.reply_to (tables.table_of_deck table.old.deck) options.now
         (spec.watch_subject subject.now.from.now subject.now.to.now)) }
-    ensures queries { AreQueries
-        (spec.queries_of (tables.table table.old.deck) options.now
+    ensures queries { AreLiveQueries
+        (spec.queries_of (tables.table_of_deck table.old.deck) options.now
         (spec.watch_subject subject.now.from.now subject.now.to.now))
         result table.old table.new steps.old steps.new }
     ensures deck { table.new.deck ≡ table.old.deck }
@@ -58,11 +58,11 @@ pub(crate) fn watch_on<L: Ledger>(
     subject: &Subject<'_>,
     steps: &mut Steps<L>,
 ) -> Result<Watch, AllocError>
-    requires { IsPrintable options.now }
-    ensures watch { IfOk result (λ watch. watch ≡ spec.watch_on (tables.table table.old.deck) options.now
+    requires { AreReplyOptionsPrintable options.now }
+    ensures watch { IfOk result (λ watch. watch ≡ spec.watch_on (tables.table_of_deck table.old.deck) options.now
         (spec.watch_subject subject.now.from.now subject.now.to.now)) }
-    ensures queries { AreQueries
-        (spec.queries_of (tables.table table.old.deck) options.now
+    ensures queries { AreLiveQueries
+        (spec.queries_of (tables.table_of_deck table.old.deck) options.now
         (spec.watch_subject subject.now.from.now subject.now.to.now))
         result table.old table.new steps.old steps.new }
     ensures deck { table.new.deck ≡ table.old.deck }
@@ -83,14 +83,14 @@ impl Watch {
         options: &Options,
         steps: &mut Steps<L>,
     ) -> Result<bool, AllocError>
-        requires { IsPrintable options.now }
+        requires { AreReplyOptionsPrintable options.now }
         ensures news { IfOk result (λ news.
-            news ≡ is_news (spec.change_of (tables.table table.old.deck) options.now self.old)) }
+            news ≡ is_news (spec.change_of (tables.table_of_deck table.old.deck) options.now self.old)) }
         ensures renewed { OnOk result (self.new
-            ≡ spec.with_current_reply (tables.table table.old.deck) options.now self.old) }
+            ≡ spec.with_current_reply (tables.table_of_deck table.old.deck) options.now self.old) }
         ensures same { OnErr result (self.new ≡ self.old) }
-        ensures queries { AreQueries
-            (spec.queries_of (tables.table table.old.deck) options.now (spec.subject_of self.old))
+        ensures queries { AreLiveQueries
+            (spec.queries_of (tables.table_of_deck table.old.deck) options.now (spec.subject_of_watch self.old))
             result table.old table.new steps.old steps.new }
         ensures deck { table.new.deck ≡ table.old.deck }
     {

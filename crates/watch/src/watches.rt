@@ -2,9 +2,9 @@
 
 ghost use Rattle.std.specs.Prelude.{◌≡◌, ◌↔◌, ◌+◌, ◌++◌, ◌∷◌, ◌≤◌, [], IfOk, IsErrOf, OnErr, OnOk, length, map};
 ghost use Rattle.deck.specs.Tables as tables;
-ghost use Rattle.def_entry.specs.Tables.{Table};
-ghost use Rattle.live_table.specs.Calls.{AreQueries};
-ghost use Rattle.reply.specs.Options.{IsPrintable};
+ghost use Rattle.def_entry.specs.Tables.{EntryTable};
+ghost use Rattle.live_table.specs.Calls.{AreLiveQueries};
+ghost use Rattle.reply.specs.Options.{AreReplyOptionsPrintable};
 ghost use Rattle.watch.specs.Calls as calls;
 ghost use Rattle.watch.specs.Changes.{watch_notice, watch_report};
 ghost use Rattle.watch.specs.Edits.{report_by_edit};
@@ -80,20 +80,21 @@ impl Watches {
         to: &[u8],
         steps: &mut Steps<L>,
     ) -> Result<Text, WatchFault>
-        requires { IsPrintable options.now }
-        ensures text { let table = tables.table table.old.deck in IfOk result (λ text.
+        requires { AreReplyOptionsPrintable options.now }
+        ensures text { let table = tables.table_of_deck table.old.deck in IfOk result (λ text.
             text ≡ watch_notice (length self.old + 1)
             (spec.reply_to table options.now (spec.watch_subject from.now to.now))) }
         ensures added { OnOk result (self.new ≡ self.old
-            ++ spec.watch_on (tables.table table.old.deck) options.now (spec.watch_subject from.now to.now) ∷ []) }
+            ++ spec.watch_on (tables.table_of_deck table.old.deck) options.now (spec.watch_subject from.now to.now)
+            ∷ []) }
         ensures kept { OnErr result (self.new ≡ self.old) }
         ensures full { IsErrOf result TooMany ↔ (length self.old ≡ spec.most_watches) }
         ensures few { length self.new ≤ spec.most_watches }
         ensures queries { calls.AreWatchQueries
-            (spec.queries_of (tables.table table.old.deck) options.now (spec.watch_subject from.now to.now))
+            (spec.queries_of (tables.table_of_deck table.old.deck) options.now (spec.watch_subject from.now to.now))
             result table.old table.new steps.old steps.new }
         ensures deck { table.new.deck ≡ table.old.deck }
-        ensures current { let table = tables.table table.old.deck in
+        ensures current { let table = tables.table_of_deck table.old.deck in
             spec.AreCurrent table options.now self.old → spec.AreCurrent table options.now self.new }
     {
         let count = self.items.len();
@@ -118,18 +119,19 @@ impl Watches {
         options: &Options,
         steps: &mut Steps<L>,
     ) -> Result<Text, AllocError>
-        requires { IsPrintable options.now }
+        requires { AreReplyOptionsPrintable options.now }
         ensures told { IfOk result (λ text.
-            text ≡ watch_report (map (spec.change_of (tables.table table.old.deck) options.now) self.old)) }
-        ensures edit { (before : Table) → spec.AreCurrent before options.now self.old → IfOk result (λ text. text
-            ≡ report_by_edit before (tables.table table.old.deck) options.now (map spec.subject_of self.old)) }
+            text ≡ watch_report (map (spec.change_of (tables.table_of_deck table.old.deck) options.now) self.old)) }
+        ensures edit { (before : EntryTable) → spec.AreCurrent before options.now self.old → IfOk result (λ text. text
+            ≡ report_by_edit before (tables.table_of_deck table.old.deck) options.now
+            (map spec.subject_of_watch self.old)) }
         ensures renewed { OnOk result (self.new
-            ≡ map (spec.with_current_reply (tables.table table.old.deck) options.now) self.old) }
-        ensures current { OnOk result (spec.AreCurrent (tables.table table.old.deck) options.now self.new) }
+            ≡ map (spec.with_current_reply (tables.table_of_deck table.old.deck) options.now) self.old) }
+        ensures current { OnOk result (spec.AreCurrent (tables.table_of_deck table.old.deck) options.now self.new) }
         ensures partly { OnErr result
-            (calls.IsPartlyRenewed (tables.table table.old.deck) options.now self.old self.new) }
-        ensures queries { AreQueries (spec.all_queries (tables.table table.old.deck) options.now self.old) result
-            table.old table.new steps.old steps.new }
+            (calls.AreWatchesPartlyRenewed (tables.table_of_deck table.old.deck) options.now self.old self.new) }
+        ensures queries { AreLiveQueries (spec.all_queries (tables.table_of_deck table.old.deck) options.now self.old)
+            result table.old table.new steps.old steps.new }
         ensures deck { table.new.deck ≡ table.old.deck }
     {
         table.outcomes_are_right();

@@ -5,17 +5,17 @@ use Rattle.std.specs.List.{flat_map, list_all}
 use Rattle.std.proofs.lemmas.Grind.{flat_map-append}
 use Rattle.std.proofs.lemmas.List.{append-nil, append_assoc}
 use Rattle.std.proofs.lemmas.List.Elements.{filter-append}
-use Rattle.def_entry.specs.Tables.{Table, is_present}
+use Rattle.def_entry.specs.Tables.{EntryTable, is_entry_present}
 use Rattle.def_entry.specs.declared.key.Key.{Key}
 use Rattle.name_lookup.specs.Candidates.{prefix_candidate, prefix_candidates, prefix_candidates_within}
 use Rattle.name_lookup.specs.Candidates.{singular_candidates}
 use Rattle.word_readings.specs.Readings.{readings_present}
 
-module _ (table : Table) where
+module _ (table : EntryTable) where
   -- the present candidates of a concatenation are those of the first list followed by those of the second
   pub present-append : (xs ys : List (List Key)) → readings_present table (xs ++ ys) ≡ readings_present table xs
       ++ readings_present table ys
-  present-append xs ys = filter-append (list_all (is_present table)) xs ys
+  present-append xs ys = filter-append (list_all (is_entry_present table)) xs ys
 
   -- appending the present candidates of `xs` and then those of `ys` appends those of `xs ++ ys`
   pub onto :

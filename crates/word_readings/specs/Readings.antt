@@ -2,7 +2,7 @@
 use Rattle.std.specs.Prelude.{ℕ, List, [], ◌∷◌, filter, map}
 use Rattle.std.specs.List.{list_all}
 use Rattle.def_entry.specs.Keys.{key}
-use Rattle.def_entry.specs.Tables.{Table, is_present}
+use Rattle.def_entry.specs.Tables.{EntryTable, is_entry_present}
 use Rattle.def_entry.specs.declared.key.Key.{Key}
 use Rattle.def_entry.specs.declared.key.Kind.TheVariants as kind
 use Rattle.name_lookup.specs.Candidates.{part_candidates}
@@ -10,12 +10,12 @@ use Rattle.word_readings.specs.declared.reading.Reading.{Reading}
 use Rattle.word_readings.specs.declared.reading.Reading.TheVariants.{Unit, Prefix, PrefixedUnit}
 
 -- the candidates whose keys all have an entry
-abbrev pub readings_present : Table → List (List Key) → List (List Key)
-readings_present table candidates = filter (list_all (is_present table)) candidates
+abbrev pub readings_present : EntryTable → List (List Key) → List (List Key)
+readings_present table candidates = filter (list_all (is_entry_present table)) candidates
 
 -- the candidates of a word whose keys all have an entry, apart from the unit and the function with the word's own name;
 -- if the word names a unit, that unit hides them
-abbrev pub readings : Table → List ℕ → List (List Key)
+abbrev pub readings : EntryTable → List ℕ → List (List Key)
 readings table word = readings_present table (part_candidates word)
 
 -- the keys of one reading

@@ -1,13 +1,12 @@
 //! The readings of words.
 
-ghost use Rattle.std.specs.Prelude.{◌≡◌, ◌++◌, ◌∷◌, [], IfOk, OnOk, codes, flat_map, length};
-ghost use Rattle.std.specs.Prelude.{if◌then◌else◌};
+ghost use Rattle.std.specs.Prelude.{◌≡◌, ◌++◌, ◌∷◌, [], IfOk, OnOk, codes, flat_map, length, if◌then◌else◌};
 ghost use Rattle.def_entry.specs.Keys.{key};
-ghost use Rattle.def_entry.specs.Tables.{is_present};
+ghost use Rattle.def_entry.specs.Tables.{is_entry_present};
 ghost use Rattle.def_entry.specs.declared.key.Kind.TheVariants as kinds;
-ghost use Rattle.deck.specs.Tables.{table};
+ghost use Rattle.deck.specs.Tables.{table_of_deck};
 ghost use Rattle.name_lookup.specs.Candidates as lookup;
-ghost use Rattle.name_lookup.specs.Plurals.{has_ending, without_end};
+ghost use Rattle.name_lookup.specs.Plurals.{has_plural_ending, stem_without_end};
 ghost use Rattle.word_readings.specs.Readings as spec;
 
 use crate::endings::{PluralEnding, without_ending};
@@ -20,7 +19,8 @@ use units_io::Text;
 /// Returns all readings of `word` in `deck` as a plural or with a prefix, in the order in which lookup prefers them.
 /// Fails only if memory runs out.
 pub fn word_readings(alloc: Global, deck: &Deck, word: &[u8]) -> Result<Vec<Reading>, AllocError>
-    ensures { IfOk result (λ readings. spec.readings_keys readings.items ≡ spec.readings (table deck.now) word.now) }
+    ensures { IfOk result (λ readings. spec.readings_keys readings.items
+        ≡ spec.readings (table_of_deck deck.now) word.now) }
 {
     let mut readings = Vec::new(alloc);
     let s = PluralEnding {
@@ -48,9 +48,9 @@ fn put_without(
     ending: &PluralEnding<'_>,
 ) -> Result<(), AllocError>
     ensures { OnOk result (spec.readings_keys readings.new.items ≡ spec.readings_keys readings.old.items
-        ++ spec.readings_present (table deck.now) (flat_map lookup.singular_candidates
-        (if has_ending ending.now.more ending.now.letters.now word.now
-        then without_end (length ending.now.letters.now) word.now ∷ [] else []))) }
+        ++ spec.readings_present (table_of_deck deck.now) (flat_map lookup.singular_candidates
+        (if has_plural_ending ending.now.more ending.now.letters.now word.now
+        then stem_without_end (length ending.now.letters.now) word.now ∷ [] else []))) }
 {
     match without_ending(word, ending) {
         Some(singular) => put_singular(alloc, deck, readings, singular),
@@ -67,8 +67,8 @@ fn put_with_y(
     word: &[u8],
 ) -> Result<(), AllocError>
     ensures { OnOk result (spec.readings_keys readings.new.items ≡ spec.readings_keys readings.old.items
-        ++ spec.readings_present (table deck.now) (flat_map lookup.singular_candidates
-        (if has_ending 4 (codes "ies") word.now then (without_end 3 word.now ++ codes "y") ∷ [] else []))) }
+        ++ spec.readings_present (table_of_deck deck.now) (flat_map lookup.singular_candidates
+        (if has_plural_ending 4 (codes "ies") word.now then (stem_without_end 3 word.now ++ codes "y") ∷ [] else []))) }
 {
     let ies = PluralEnding {
         letters: b"ies",
@@ -91,7 +91,7 @@ fn put_singular(
     word: &[u8],
 ) -> Result<(), AllocError>
     ensures { OnOk result (spec.readings_keys readings.new.items ≡ spec.readings_keys readings.old.items
-        ++ spec.readings_present (table deck.now) (lookup.singular_candidates word.now)) }
+        ++ spec.readings_present (table_of_deck deck.now) (lookup.singular_candidates word.now)) }
 {
     put_unit(alloc, deck, readings, word)?;
     put_with_prefixes(alloc, deck, readings, word)
@@ -105,7 +105,7 @@ fn put_unit(
     word: &[u8],
 ) -> Result<(), AllocError>
     ensures { OnOk result (spec.readings_keys readings.new.items ≡ spec.readings_keys readings.old.items
-        ++ spec.readings_present (table deck.now) ((key kinds.Unit word.now ∷ []) ∷ [])) }
+        ++ spec.readings_present (table_of_deck deck.now) ((key kinds.Unit word.now ∷ []) ∷ [])) }
 {
     if !has_key(deck, Kind::Unit, word) {
         return Ok(());
@@ -122,7 +122,7 @@ fn put_with_prefixes(
     word: &[u8],
 ) -> Result<(), AllocError>
     ensures { OnOk result (spec.readings_keys readings.new.items ≡ spec.readings_keys readings.old.items
-        ++ spec.readings_present (table deck.now) (lookup.prefix_candidates word.now)) }
+        ++ spec.readings_present (table_of_deck deck.now) (lookup.prefix_candidates word.now)) }
 {
     let mut len = word.len();
     while len > 0 {
@@ -142,7 +142,7 @@ fn put_with_prefix(
     rest: &[u8],
 ) -> Result<(), AllocError>
     ensures { OnOk result (spec.readings_keys readings.new.items ≡ spec.readings_keys readings.old.items
-        ++ spec.readings_present (table deck.now) (lookup.prefix_candidate front.now rest.now ∷ [])) }
+        ++ spec.readings_present (table_of_deck deck.now) (lookup.prefix_candidate front.now rest.now ∷ [])) }
 {
     if !has_key(deck, Kind::Prefix, front) {
         return Ok(());
@@ -161,7 +161,7 @@ fn put_with_prefix(
 
 // Returns whether a key has an entry.
 fn has_key(deck: &Deck, kind: Kind, name: &[u8]) -> bool
-    ensures { result ≡ is_present (table deck.now) (key kind name.now) }
+    ensures { result ≡ is_entry_present (table_of_deck deck.now) (key kind name.now) }
 {
     deck.entry(kind, name).is_some()
 }

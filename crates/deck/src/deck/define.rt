@@ -1,23 +1,22 @@
 //! Appending a definition to a deck.
 
 ghost use Rattle.std.specs.Prelude.{◌≡◌, ◌<◌, ◌++◌, ◌∷◌, ◌⊎◌, [], Some, Err, not, false, length, IfOk, IfErr, IfSome};
-ghost use Rattle.std.specs.Prelude.{OnErr};
-ghost use Rattle.std.specs.Prelude.{OnOk, option_map};
-ghost use Rattle.def_lines.specs.Blanks.{trim_of};
+ghost use Rattle.std.specs.Prelude.{OnErr, OnOk, option_map};
+ghost use Rattle.def_lines.specs.Blanks.{trimmed_of_blanks};
 ghost use Rattle.def_entry.specs.Keys as keys;
 ghost use Rattle.def_entry.specs.LineViews.{seen_entry};
 ghost use Rattle.def_entry.specs.Views.{entry_view};
 ghost use Rattle.deck_lines.specs.ClosedBlocks.{AreBlocksClosed};
-ghost use Rattle.deck_lines.specs.Limits.{pass_limit};
-ghost use Rattle.deck_lines.specs.Marks.{plain_line, with_mark};
-ghost use Rattle.deck_lines.specs.Names.{names_of_kind};
-ghost use Rattle.deck_lines.specs.Readings.{entry_in};
+ghost use Rattle.deck_lines.specs.Limits.{pass_store_limit};
+ghost use Rattle.deck_lines.specs.Marks.{plain_store_line, store_line_with_mark};
+ghost use Rattle.deck_lines.specs.Names.{key_number_names_of_kind};
+ghost use Rattle.deck_lines.specs.Readings.{entry_in_store_line};
 ghost use Rattle.deck_lines.specs.Stores as stores;
-ghost use Rattle.deck.specs.Changes.{IsChange};
-ghost use Rattle.deck.specs.Decks.{Contents};
+ghost use Rattle.deck.specs.Changes.{IsEditChange};
+ghost use Rattle.deck.specs.Decks.{DeckContents};
 ghost use Rattle.deck.specs.Edits as edit;
-ghost use Rattle.deck.specs.LastPlaces.{IsIndexed, places_of};
-ghost use Rattle.deck.specs.Tables.{entry_at, last_place, table};
+ghost use Rattle.deck.specs.LastPlaces.{IsDeckIndexed, last_definition_places};
+ghost use Rattle.deck.specs.Tables.{entry_at, last_definition_place, table_of_deck};
 ghost use Rattle.deck.specs.LineRemoval as undefining;
 ghost use Rattle.deck.specs.declared.fault.DeckFault.TheVariants.{OutOfMemory};
 ghost use Rattle.deck.specs.declared.settings.Settings as settings_spec;
@@ -46,7 +45,8 @@ impl Deck {
     /// `DeckFull` if one more line would pass a limit. The only other error is running out of memory. The cost depends
     /// only on the length of the line, not on the size of the deck.
     pub fn define(&mut self, alloc: Global, line: &[u8]) -> Result<Keys, DeckFault>
-        ensures { edit.IsEdit (edit.after_define (trim_of line.now) self.old) self.old self.new result }
+        ensures { edit.IsDeckEdit (edit.deck_after_defining (trimmed_of_blanks line.now) self.old) self.old self.new
+            result }
     {
         match self.define_shadowing(alloc, line) {
             Ok((keys, _)) => Ok(keys),
@@ -61,8 +61,8 @@ impl Deck {
         alloc: Global,
         line: &[u8],
     ) -> Result<(Keys, Option<usize>), DeckFault>
-        ensures { undefining.IsDefinedOver (edit.after_define (trim_of line.now) self.old) (trim_of line.now)
-            self.old self.new result }
+        ensures { undefining.IsDeckDefinedOver (edit.deck_after_defining (trimmed_of_blanks line.now) self.old)
+            (trimmed_of_blanks line.now) self.old self.new result }
     {
         let line = trim(line);
         let (key, what) = read_definition(alloc, line)?;
@@ -76,7 +76,7 @@ impl Deck {
 
     // Reports whether one more line with this text is within the limits.
     fn has_room(&self, text: &[u8]) -> bool
-        ensures room { pass_limit (edit.with_line text.now self.now).lines ≡ not result }
+        ensures room { pass_store_limit (edit.deck_with_line text.now self.now).lines ≡ not result }
         ensures closed { AreBlocksClosed self.now.lines }
     {
         self.store.has_room(text.len())
@@ -91,9 +91,9 @@ impl Deck {
         entry: Entry<'_>,
     ) -> Result<(Keys, Option<usize>), AllocError>
         ensures changed { IfOk result (λ over. AreBlocksClosed self.now.lines
-            → entry_in (plain_line 0 entry.entry.line.now) ≡ Some (key.now, entry_view entry.entry)
-            → IsChange self.now (edit.with_line entry.entry.line.now self.now) over.0) }
-        ensures place { IfOk result (λ over. over.1 ≡ last_place self.now.settings self.now.lines key.now) }
+            → entry_in_store_line (plain_store_line 0 entry.entry.line.now) ≡ Some (key.now, entry_view entry.entry)
+            → IsEditChange self.now (edit.deck_with_line entry.entry.line.now self.now) over.0) }
+        ensures place { IfOk result (λ over. over.1 ≡ last_definition_place self.now.settings self.now.lines key.now) }
     {
         same_text_law();
         let Some(old) = self.placed_entry(key.kind, key.name.as_bytes()) else {
@@ -110,8 +110,8 @@ impl Deck {
     // Returns the results of `entry` and `place_of` from one lookup.
     fn placed_entry(&self, kind: Kind, name: &[u8]) -> Option<PlacedEntry<'_>>
         ensures entry { option_map (λ p. entry_view p.entry) result
-            ≡ entry_at (table self.now) (keys.key kind name.now) }
-        ensures place { IfSome result (λ p. last_place self.now.settings self.now.lines
+            ≡ entry_at (table_of_deck self.now) (keys.key kind name.now) }
+        ensures place { IfSome result (λ p. last_definition_place self.now.settings self.now.lines
             (keys.key kind name.now) ≡ Some p.place) }
     {
         let Some(place) = self.place_of(kind, name) else {
@@ -132,10 +132,10 @@ impl Deck {
         what: What,
         over: Option<usize>,
     ) -> Result<(), AllocError>
-        requires defines { entry_in (plain_line 0 text.now) ≡ Some (seen_entry text.now (key, what)) }
-        requires within { pass_limit (edit.with_line text.now self.old).lines ≡ false }
-        requires covers { over ≡ last_place self.old.settings self.old.lines key }
-        ensures ok { OnOk result (self.new ≡ edit.with_line text.now self.old) }
+        requires defines { entry_in_store_line (plain_store_line 0 text.now) ≡ Some (seen_entry text.now (key, what)) }
+        requires within { pass_store_limit (edit.deck_with_line text.now self.old).lines ≡ false }
+        requires covers { over ≡ last_definition_place self.old.settings self.old.lines key }
+        ensures ok { OnOk result (self.new ≡ edit.deck_with_line text.now self.old) }
         ensures err { OnErr result (self.new ≡ self.old) }
     {
         let text = Text::from_bytes(alloc, text)?;
@@ -166,12 +166,12 @@ fn put_definition(
     line: Line,
     definition: (Key, What),
 ) -> Result<(), AllocError>
-    requires defines { entry_in (with_mark false line) ≡ Some (seen_entry line.text definition) }
-    requires within { pass_limit (store.old.lines ++ with_mark false line ∷ []) ≡ false }
-    ensures ok { OnOk result (store.new ≡ stores.store_with_line store.old (with_mark false line)) }
+    requires defines { entry_in_store_line (store_line_with_mark false line) ≡ Some (seen_entry line.text definition) }
+    requires within { pass_store_limit (store.old.lines ++ store_line_with_mark false line ∷ []) ≡ false }
+    ensures ok { OnOk result (store.new ≡ stores.store_with_line store.old (store_line_with_mark false line)) }
     ensures err { OnErr result (store.new ≡ store.old) }
-    ensures indexed { (settings : settings_spec.Settings) → IsIndexed store.old settings last.old
-        → IsIndexed store.new settings last.new }
+    ensures indexed { (settings : settings_spec.Settings) → IsDeckIndexed store.old settings last.old
+        → IsDeckIndexed store.new settings last.new }
 {
     let kind = definition.0.kind;
     last.make_room(kind, store.name_count(kind))?;
@@ -186,14 +186,14 @@ fn put_in_room(
     line: Line,
     definition: (Key, What),
 ) -> Result<(), AllocError>
-    requires defines { entry_in (with_mark false line) ≡ Some (seen_entry line.text definition) }
-    requires within { pass_limit (store.old.lines ++ with_mark false line ∷ []) ≡ false }
-    requires room { length (names_of_kind store.old.names definition.0.kind)
-        < length (places_of last.old definition.0.kind) }
-    ensures ok { OnOk result (store.new ≡ stores.store_with_line store.old (with_mark false line)) }
+    requires defines { entry_in_store_line (store_line_with_mark false line) ≡ Some (seen_entry line.text definition) }
+    requires within { pass_store_limit (store.old.lines ++ store_line_with_mark false line ∷ []) ≡ false }
+    requires room { length (key_number_names_of_kind store.old.names definition.0.kind)
+        < length (last_definition_places last.old definition.0.kind) }
+    ensures ok { OnOk result (store.new ≡ stores.store_with_line store.old (store_line_with_mark false line)) }
     ensures err { OnErr result (store.new ≡ store.old) }
-    ensures indexed { (settings : settings_spec.Settings) → IsIndexed store.old settings last.old
-        → IsIndexed store.new settings last.new }
+    ensures indexed { (settings : settings_spec.Settings) → IsDeckIndexed store.old settings last.old
+        → IsDeckIndexed store.new settings last.new }
 {
     let place = store.len();
     store.push(alloc, line, false, Some(definition))?;
@@ -206,11 +206,12 @@ fn put_in_room(
 
 // Returns the definition of a line, or the reason why an edit with this line is refused.
 fn read_definition(alloc: Global, line: &[u8]) -> Result<(Key, What), DeckFault>
-    ensures entry { IfOk result (λ found. entry_in (plain_line 0 line.now) ≡ Some (seen_entry line.now found)) }
-    ensures ok { OnOk result ((d : Contents) → edit.after_define line.now d
-        ≡ edit.deck_within_limit (edit.with_line line.now d)) }
+    ensures entry { IfOk result
+        (λ found. entry_in_store_line (plain_store_line 0 line.now) ≡ Some (seen_entry line.now found)) }
+    ensures ok { OnOk result ((d : DeckContents) → edit.deck_after_defining line.now d
+        ≡ edit.deck_within_limit (edit.deck_with_line line.now d)) }
     ensures err { IfErr result (λ fault. (fault ≡ OutOfMemory)
-        ⊎ ((d : Contents) → edit.after_define line.now d ≡ Err fault)) }
+        ⊎ ((d : DeckContents) → edit.deck_after_defining line.now d ≡ Err fault)) }
 {
     match classify(line) {
         LineKind::Definition | LineKind::UnitList => match read_entry(alloc, line) {

@@ -22,7 +22,7 @@ impl Deck {
     /// Returns the texts of the active lines that define a key, in order. No line is parsed again. The only error is
     /// running out of memory.
     pub fn defining_line_texts(&self, alloc: Global) -> Result<Texts, AllocError>
-        ensures { IfOk result (λ texts. texts ≡ spec.defining_texts self.now) }
+        ensures { IfOk result (λ texts. texts ≡ spec.active_definition_texts self.now) }
     {
         let flags = active_flags(alloc, &self.store, &self.settings)?;
         defining_texts(alloc, &self.store, flags.as_slice())
@@ -33,7 +33,7 @@ impl Deck {
 fn defining_texts(alloc: Global, store: &LineStore, flags: &[bool]) -> Result<Texts, AllocError>
     requires { length flags.now ≡ length store.now.lines }
     ensures { IfOk result (λ texts. texts
-        ≡ spec.texts_of_lines spec.definition_in (spec.where_true flags.now store.now.lines)) }
+        ≡ spec.texts_of_deck_lines spec.deck_definition_text (spec.active_lines_by_flags flags.now store.now.lines)) }
 {
     let mut texts = Texts::new(alloc);
     for place in 0..flags.len() {
@@ -51,7 +51,7 @@ fn push_if_defining(
     place: usize,
 ) -> Result<(), AllocError>
     ensures { OnOk result ((line : DeckLine) → slice_get store.now.lines place ≡ Some line
-        → texts.new ≡ texts.old ++ (if active then spec.definition_in line else [])) }
+        → texts.new ≡ texts.old ++ (if active then spec.deck_definition_text line else [])) }
 {
     if !active {
         return Ok(());

@@ -1,7 +1,7 @@
 //! Removing the last line of a key.
 
 ghost use Rattle.std.specs.Prelude.{◌≡◌, None, Some, IfOk, length};
-ghost use Rattle.deck.specs.CoveredLines.{MayCover};
+ghost use Rattle.deck.specs.CoveredLines.{MayCoverDefinitions};
 ghost use Rattle.deck.specs.Edits as edit;
 ghost use Rattle.deck.specs.Tables.{active_definitions};
 
@@ -22,7 +22,7 @@ impl Deck {
     /// cost grows with the logarithm of the number of lines, except that the first drop after an edit of several lines
     /// makes one pass over them, and so does one drop in many.
     pub fn drop_last(&mut self, alloc: Global, key: &Key) -> Result<Keys, DeckFault>
-        ensures { edit.IsEdit (edit.after_drop key.now self.old) self.old self.new result }
+        ensures { edit.IsDeckEdit (edit.deck_after_dropping key.now self.old) self.old self.new result }
     {
         let result = self.take_out_last(alloc, key);
         self.renumber_if_sparse(alloc);
@@ -31,7 +31,7 @@ impl Deck {
 
     // Does the work of `drop_last`. The key keeps its number.
     fn take_out_last(&mut self, alloc: Global, key: &Key) -> Result<Keys, DeckFault>
-        ensures { edit.IsEdit (edit.after_drop key.now self.old) self.old self.new result }
+        ensures { edit.IsDeckEdit (edit.deck_after_dropping key.now self.old) self.old self.new result }
     {
         same_text_law();
         let Some(place) = self.last_place(key) else {
@@ -63,9 +63,10 @@ fn take_covered_lines(
     store: &LineStore,
     settings: &Settings,
 ) -> Result<CoveredLines, AllocError>
-    requires { MayCover (length store.now.lines) (active_definitions settings.now store.now.lines) covered.old }
+    requires { MayCoverDefinitions (length store.now.lines) (active_definitions settings.now store.now.lines)
+        covered.old }
     ensures none { covered.new ≡ None }
-    ensures covered { IfOk result (λ lines. MayCover (length store.now.lines)
+    ensures covered { IfOk result (λ lines. MayCoverDefinitions (length store.now.lines)
         (active_definitions settings.now store.now.lines) (Some lines)) }
 {
     match mem::replace(covered, None) {

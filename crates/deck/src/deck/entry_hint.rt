@@ -19,7 +19,7 @@ impl Deck {
     #[inline(always)]
     pub fn entry_with_hint(&self, near: usize, kind: Kind, name: &[u8]) -> Option<Entry<'_>>
         ensures { option_map entry_view result
-            ≡ tables.entry_at (tables.table self.now) (keys.key kind name.now) }
+            ≡ tables.entry_at (tables.table_of_deck self.now) (keys.key kind name.now) }
     {
         if self.is_last_place(near, kind, name) {
             return self.store.entry(near);
@@ -29,7 +29,7 @@ impl Deck {
 
     // Reports whether the line at `place` defines the key and `place` is the last place of the key.
     fn is_last_place(&self, place: usize, kind: Kind, name: &[u8]) -> bool
-        ensures { OnTrue result (tables.last_place self.now.settings self.now.lines (keys.key kind name.now)
+        ensures { OnTrue result (tables.last_definition_place self.now.settings self.now.lines (keys.key kind name.now)
             ≡ Some place) }
     {
         let Some(number) = self.store.key_number(place) else {

@@ -3,16 +3,16 @@
 ghost use Rattle.std.specs.Prelude.{◌≡◌, ◌⊎◌, ◌≤◌, [], Some, Ok, Err, true, false, IfOk, IfErr, MatchResult, OnOk};
 ghost use Rattle.std.specs.Prelude.{OnErr};
 ghost use Rattle.units_io.specs.FileMap.{FileMap};
-ghost use Rattle.deck_lines.specs.Limits.{pass_limit};
-ghost use Rattle.deck_lines.specs.Loads.{Extends};
-ghost use Rattle.deck_lines.specs.KeyNumbering.{IsNumbering};
+ghost use Rattle.deck_lines.specs.Limits.{pass_store_limit};
+ghost use Rattle.deck_lines.specs.Loads.{ExtendsStore};
+ghost use Rattle.deck_lines.specs.KeyNumbering.{IsKeyNumbering};
 ghost use Rattle.deck_lines.specs.LineLoads.{excerpt_in};
 ghost use Rattle.deck_lines.specs.Transcripts.{IsLoad, IsTranscript};
-ghost use Rattle.deck.specs.Changes.{IsChange, IsTableChange};
-ghost use Rattle.deck.specs.Decks.{Contents};
-ghost use Rattle.deck.specs.LastPlaces.{IsIndexed};
+ghost use Rattle.deck.specs.Changes.{IsDeckTableChange, IsEditChange};
+ghost use Rattle.deck.specs.Decks.{DeckContents};
+ghost use Rattle.deck.specs.LastPlaces.{IsDeckIndexed};
 ghost use Rattle.deck.specs.FileLoads as loading;
-ghost use Rattle.deck.specs.Tables.{active_definitions, table_of};
+ghost use Rattle.deck.specs.Tables.{active_definitions, table_of_deck_definitions};
 ghost use Rattle.deck.specs.declared.fault.DeckFault.TheVariants.{OutOfMemory};
 
 use super::Deck;
@@ -37,17 +37,17 @@ impl Deck {
         name: &[u8],
     ) -> Result<Keys, DeckFault>
         ensures told { (m : FileMap) → F.files files.old ≡ Some m
-            → loading.IsAppended (loading.after_append m name.now self.old) self.new result }
+            → loading.IsDeckAppended (loading.deck_after_appending m name.now self.old) self.new result }
         ensures loads { IsLoad OutOfMemory (IsTranscript (F.files files.old) F.is_fetch files.old files.new)
-            (loading.load_of_name name.now (loading.lines_alone self.old.lines)) (λ _. loading.excerpt_of self.new)
-            result }
-        ensures changed { IfOk result (λ keys. IsChange self.old self.new keys) }
+            (loading.deck_load_of_name name.now (loading.deck_excerpt_of_lines self.old.lines))
+            (λ _. loading.excerpt_of_deck self.new) result }
+        ensures changed { IfOk result (λ keys. IsEditChange self.old self.new keys) }
         ensures settings { self.new.settings ≡ self.old.settings }
         ensures err { OnErr result (self.new ≡ self.old) }
-        ensures answers { IfErr result (λ fault. loading.is_load_fault fault ≡ true) }
+        ensures answers { IfErr result (λ fault. loading.is_deck_load_fault fault ≡ true) }
         ensures kept { F.files files.new ≡ F.files files.old }
         ensures stores { F.store_faults files.new ≡ F.store_faults files.old }
-        ensures counted { F.faults files.new ≡ loading.fetch_faults_after (F.faults files.old) result }
+        ensures counted { F.faults files.new ≡ loading.fetch_faults_after_deck_load (F.faults files.old) result }
     {
         self.covered_lines = None;
         let FileEnd { changes, notices } = append_file(
@@ -87,24 +87,25 @@ fn append_file<F: Files>(
     settings: &Settings,
     name: &[u8],
 ) -> Result<FileEnd, DeckFault>
-    requires { IsIndexed store.old settings.now last.now }
-    ensures told { (m : FileMap) (d : Contents) → F.files files.old ≡ Some m → d.lines ≡ store.old.lines →
+    requires { IsDeckIndexed store.old settings.now last.now }
+    ensures told { (m : FileMap) (d : DeckContents) → F.files files.old ≡ Some m → d.lines ≡ store.old.lines →
         MatchResult result
-        (λ end. loading.after_append m name.now d ≡ Ok (record d { lines = store.new.lines; notices = end.notices }))
-        (λ fault. loading.MayFail fault ⊎ (loading.after_append m name.now d ≡ Err fault)) }
+        (λ end. loading.deck_after_appending m name.now d
+        ≡ Ok (record d { lines = store.new.lines; notices = end.notices }))
+        (λ fault. loading.MayDeckLoadFailWith fault ⊎ (loading.deck_after_appending m name.now d ≡ Err fault)) }
     ensures loads { IsLoad OutOfMemory (IsTranscript (F.files files.old) F.is_fetch files.old files.new)
-        (loading.load_of_name name.now (loading.lines_alone store.old.lines))
+        (loading.deck_load_of_name name.now (loading.deck_excerpt_of_lines store.old.lines))
         (λ end. record { lines = store.new.lines; notices = end.notices }) result }
-    ensures indexed { IfOk result (λ end. IsIndexed store.new settings.now end.changes.last) }
-    ensures changed { IfOk result (λ end. IsTableChange
-        (table_of (active_definitions settings.now store.old.lines))
-        (table_of (active_definitions settings.now store.new.lines)) end.changes.keys) }
+    ensures indexed { IfOk result (λ end. IsDeckIndexed store.new settings.now end.changes.last) }
+    ensures changed { IfOk result (λ end. IsDeckTableChange
+        (table_of_deck_definitions (active_definitions settings.now store.old.lines))
+        (table_of_deck_definitions (active_definitions settings.now store.new.lines)) end.changes.keys) }
     ensures lines { OnErr result (store.new.lines ≡ store.old.lines) }
-    ensures stays { OnErr result (IsIndexed store.new settings.now last.now) }
-    ensures answers { IfErr result (λ fault. loading.is_load_fault fault ≡ true) }
+    ensures stays { OnErr result (IsDeckIndexed store.new settings.now last.now) }
+    ensures answers { IfErr result (λ fault. loading.is_deck_load_fault fault ≡ true) }
     ensures kept { F.files files.new ≡ F.files files.old }
     ensures stores { F.store_faults files.new ≡ F.store_faults files.old }
-    ensures counted { F.faults files.new ≡ loading.fetch_faults_after (F.faults files.old) result }
+    ensures counted { F.faults files.new ≡ loading.fetch_faults_after_deck_load (F.faults files.old) result }
 {
     let len = store.len();
     let mut draft = draft_of(alloc, store);
@@ -142,22 +143,24 @@ fn load_changes<F: Files>(
     name: &[u8],
 ) -> Result<PlaceChanges, DeckFault>
     requires notices { draft.old.notices ≡ [] }
-    requires indexed { IsIndexed draft.old.store settings.now last.now }
-    requires numbering { IsNumbering draft.old.store }
-    ensures told { (m : FileMap) (d : Contents) → F.files files.old ≡ Some m → d.lines ≡ draft.old.store.lines →
-        loading.IsLoadRead (loading.after_append m name.now d) d draft.new.store.lines draft.new.notices result }
+    requires indexed { IsDeckIndexed draft.old.store settings.now last.now }
+    requires numbering { IsKeyNumbering draft.old.store }
+    ensures told { (m : FileMap) (d : DeckContents) → F.files files.old ≡ Some m → d.lines ≡ draft.old.store.lines →
+        loading.IsDeckLoadRead (loading.deck_after_appending m name.now d) d draft.new.store.lines draft.new.notices
+        result }
     ensures loads { IsLoad OutOfMemory (IsTranscript (F.files files.old) F.is_fetch files.old files.new)
-        (loading.load_of_name name.now (loading.lines_alone draft.old.store.lines)) (λ _. excerpt_in draft.new) result }
-    ensures within { OnOk result (pass_limit draft.new.store.lines ≡ false) }
-    ensures extends { Extends draft.old.store draft.new.store }
-    ensures indexed { IfOk result (λ now. IsIndexed draft.new.store settings.now now.last) }
-    ensures changed { IfOk result (λ now. IsTableChange
-        (table_of (active_definitions settings.now draft.old.store.lines))
-        (table_of (active_definitions settings.now draft.new.store.lines)) now.keys) }
-    ensures answers { IfErr result (λ fault. loading.is_load_fault fault ≡ true) }
+        (loading.deck_load_of_name name.now (loading.deck_excerpt_of_lines draft.old.store.lines))
+        (λ _. excerpt_in draft.new) result }
+    ensures within { OnOk result (pass_store_limit draft.new.store.lines ≡ false) }
+    ensures extends { ExtendsStore draft.old.store draft.new.store }
+    ensures indexed { IfOk result (λ now. IsDeckIndexed draft.new.store settings.now now.last) }
+    ensures changed { IfOk result (λ now. IsDeckTableChange
+        (table_of_deck_definitions (active_definitions settings.now draft.old.store.lines))
+        (table_of_deck_definitions (active_definitions settings.now draft.new.store.lines)) now.keys) }
+    ensures answers { IfErr result (λ fault. loading.is_deck_load_fault fault ≡ true) }
     ensures kept { F.files files.new ≡ F.files files.old }
     ensures stores { F.store_faults files.new ≡ F.store_faults files.old }
-    ensures counted { F.faults files.new ≡ loading.fetch_faults_after (F.faults files.old) result }
+    ensures counted { F.faults files.new ≡ loading.fetch_faults_after_deck_load (F.faults files.old) result }
 {
     load_file(alloc, files, draft, name)?;
     let now = LastPlaces::under(alloc, settings, &draft.store)?;

@@ -3,10 +3,10 @@
 ghost use Rattle.std.specs.Prelude.{◌≡◌, ◌≤◌, [], Some, true, length, IfOk, IfErr, OnOk};
 ghost use Rattle.units_io.specs.FileMap.{FileMap, longest_file};
 ghost use Rattle.deck_lines.specs.ClosedBlocks.{AreBlocksClosed};
-ghost use Rattle.deck_lines.specs.Loads.{Extends};
+ghost use Rattle.deck_lines.specs.Loads.{ExtendsStore};
 ghost use Rattle.deck_lines.specs.LineLoads.{excerpt_in};
 ghost use Rattle.deck_lines.specs.Transcripts.{IsLoad, IsTranscript};
-ghost use Rattle.deck.specs.Decks.{Contents};
+ghost use Rattle.deck.specs.Decks.{DeckContents};
 ghost use Rattle.deck.specs.FileLoads as loading;
 ghost use Rattle.deck.specs.declared.fault.DeckFault.TheVariants.{OutOfMemory};
 
@@ -29,7 +29,7 @@ impl Deck {
         settings: Settings,
     ) -> Result<Deck, DeckFault>
         requires { length text.now ≤ longest_file }
-        ensures { loading.IsLoadResult (loading.after_text text.now name.now settings) result }
+        ensures { loading.IsDeckLoadResult (loading.deck_after_text_loading text.now name.now settings) result }
     {
         known_files_determine_loads();
         let mut draft = Draft::new(alloc, settings.vars.table_seed());
@@ -49,14 +49,14 @@ impl Deck {
         settings: Settings,
     ) -> Result<Deck, DeckFault>
         ensures told { (m : FileMap) → F.files files.old ≡ Some m
-            → loading.IsLoaded (loading.after_load m name.now settings) result }
+            → loading.IsDeckLoaded (loading.deck_after_loading m name.now settings) result }
         ensures loads { IsLoad OutOfMemory (IsTranscript (F.files files.old) F.is_fetch files.old files.new)
-            (loading.load_of_name name.now (loading.lines_alone [])) loading.excerpt_of result }
+            (loading.deck_load_of_name name.now (loading.deck_excerpt_of_lines [])) loading.excerpt_of_deck result }
         ensures settings { IfOk result (λ d. d.settings ≡ settings) }
-        ensures answers { IfErr result (λ fault. loading.is_load_fault fault ≡ true) }
+        ensures answers { IfErr result (λ fault. loading.is_deck_load_fault fault ≡ true) }
         ensures kept { F.files files.new ≡ F.files files.old }
         ensures stores { F.store_faults files.new ≡ F.store_faults files.old }
-        ensures counted { F.faults files.new ≡ loading.fetch_faults_after (F.faults files.old) result }
+        ensures counted { F.faults files.new ≡ loading.fetch_faults_after_deck_load (F.faults files.old) result }
     {
         let mut draft = Draft::new(alloc, settings.vars.table_seed());
         load_file(alloc, files, &mut draft, name)?;
@@ -72,17 +72,18 @@ pub(crate) fn load_file<F: Files>(
     name: &[u8],
 ) -> Result<(), DeckFault>
     requires { draft.old.notices ≡ [] }
-    ensures told { (m : FileMap) (d : Contents) → F.files files.old ≡ Some m → d.lines ≡ draft.old.store.lines
-        → loading.IsLoadRead (loading.after_append m name.now d) d draft.new.store.lines draft.new.notices result }
+    ensures told { (m : FileMap) (d : DeckContents) → F.files files.old ≡ Some m → d.lines ≡ draft.old.store.lines
+        → loading.IsDeckLoadRead (loading.deck_after_appending m name.now d) d draft.new.store.lines draft.new.notices
+        result }
     ensures loads { IsLoad OutOfMemory (IsTranscript (F.files files.old) F.is_fetch files.old files.new)
-        (loading.load_of_name name.now (excerpt_in draft.old))
+        (loading.deck_load_of_name name.now (excerpt_in draft.old))
         (λ _. excerpt_in draft.new) result }
-    ensures extends { Extends draft.old.store draft.new.store }
+    ensures extends { ExtendsStore draft.old.store draft.new.store }
     ensures closed { OnOk result (AreBlocksClosed draft.old.store.lines → AreBlocksClosed draft.new.store.lines) }
-    ensures answers { IfErr result (λ fault. loading.is_load_fault fault ≡ true) }
+    ensures answers { IfErr result (λ fault. loading.is_deck_load_fault fault ≡ true) }
     ensures kept { F.files files.new ≡ F.files files.old }
     ensures stores { F.store_faults files.new ≡ F.store_faults files.old }
-    ensures counted { F.faults files.new ≡ loading.fetch_faults_after (F.faults files.old) result }
+    ensures counted { F.faults files.new ≡ loading.fetch_faults_after_deck_load (F.faults files.old) result }
 {
     known_files_determine_loads();
     let text = files.fetch(alloc, name)?;

@@ -1,8 +1,8 @@
 //! Removal of the numbers of keys that no line defines any more.
 
 ghost use Rattle.std.specs.Prelude.{◌≡◌, [], IfOk};
-ghost use Rattle.deck_lines.specs.Renumberings.{names_after};
-ghost use Rattle.deck.specs.LastPlaces.{AreLast, HasPlaceRoom, IsIndexed};
+ghost use Rattle.deck_lines.specs.Renumberings.{key_number_names_after};
+ghost use Rattle.deck.specs.LastPlaces.{AreLastDefinitionPlaces, HasDefinitionPlaceRoom, IsDeckIndexed};
 
 use super::Deck;
 use crate::force::active_flags;
@@ -42,9 +42,9 @@ fn renumber(
     last: &mut LastPlaces,
     settings: &Settings,
 ) -> Result<(), AllocError>
-    requires { IsIndexed store.old settings.now last.old }
+    requires { IsDeckIndexed store.old settings.now last.old }
     ensures lines { store.new.lines ≡ store.old.lines }
-    ensures indexed { IsIndexed store.new settings.now last.new }
+    ensures indexed { IsDeckIndexed store.new settings.now last.new }
 {
     let flags = active_flags(alloc, store, settings)?;
     let numbers = Renumbering::of_store(alloc, store)?;
@@ -57,8 +57,8 @@ fn renumber(
 
 // Returns last places without a place, with room for all keys that get a number.
 fn with_room(alloc: Global, numbers: &Renumbering) -> Result<LastPlaces, AllocError>
-    ensures room { IfOk result (λ last. HasPlaceRoom (names_after numbers.now) last) }
-    ensures none { IfOk result (λ last. AreLast (names_after numbers.now) [] last) }
+    ensures room { IfOk result (λ last. HasDefinitionPlaceRoom (key_number_names_after numbers.now) last) }
+    ensures none { IfOk result (λ last. AreLastDefinitionPlaces (key_number_names_after numbers.now) [] last) }
 {
     let mut last = LastPlaces::new(alloc);
     last.make_room(Kind::Unit, numbers.name_count(Kind::Unit))?;

@@ -17,7 +17,7 @@ impl Deck {
         count: usize,
     ) -> Result<DeckLines, AllocError>
         requires { at + count ≤ length self.now.lines }
-        ensures { IfOk result (λ lines. lines ≡ splices.lines_from at count self.now.lines) }
+        ensures { IfOk result (λ lines. lines ≡ splices.lines_from_deck_place at count self.now.lines) }
     {
         self.store.lines_few();
         let mut copies = DeckLines::new(alloc);

@@ -2,14 +2,14 @@
 
 ghost use Rattle.std.specs.Prelude.{◌≡◌, ◌++◌, All, map, IfOk, OnOk};
 ghost use Rattle.std.specs.List.Sorted.{IsPermutation, IsSortedByKey};
-ghost use Rattle.def_entry.specs.KeyOrder.{KeyOrderLaw, key_cmp, kind_number};
-ghost use Rattle.deck_lines.specs.Names.{key_numbered, names_of_kind};
-ghost use Rattle.deck_lines.specs.KeyNumbering.{IsNumbering};
-ghost use Rattle.deck.specs.SubstringKeys.{is_found, keys_holding};
-ghost use Rattle.deck.specs.KeyLists.{table_keys};
-ghost use Rattle.deck.specs.Numbers.{key_if, keys_where};
-ghost use Rattle.deck.specs.PlacedKeys.{ArePlaced, IsInPlace, placed_key};
-ghost use Rattle.deck.specs.Tables.{table};
+ghost use Rattle.def_entry.specs.KeyOrder.{KeyOrderLaw, key_cmp, key_order_number};
+ghost use Rattle.deck_lines.specs.Names.{key_number_names_of_kind, key_numbered};
+ghost use Rattle.deck_lines.specs.KeyNumbering.{IsKeyNumbering};
+ghost use Rattle.deck.specs.SubstringKeys.{deck_keys_holding_text, is_deck_number_holding_text};
+ghost use Rattle.deck.specs.KeyLists.{deck_table_keys};
+ghost use Rattle.deck.specs.Numbers.{deck_key_if, deck_keys_where};
+ghost use Rattle.deck.specs.PlacedKeys.{AreKeysInDefinitionPlaces, IsKeyInDefinitionPlace, placed_deck_key};
+ghost use Rattle.deck.specs.Tables.{table_of_deck};
 
 use super::Deck;
 use crate::places::LastPlaces;
@@ -32,8 +32,8 @@ impl Deck {
     /// Returns all keys that have an entry, each once, ordered by the bytes of their names, and for equal names with
     /// units before prefixes, functions and lists.
     pub(super) fn placed_keys(&self, alloc: Global) -> Result<Vec<PlacedKey<'_>>, AllocError>
-        ensures keys { IfOk result (λ keys. map placed_key keys.items ≡ table_keys (table self.now)) }
-        ensures in_place { IfOk result (λ keys. All (IsInPlace self.now.lines) keys.items) }
+        ensures keys { IfOk result (λ keys. map placed_deck_key keys.items ≡ deck_table_keys (table_of_deck self.now)) }
+        ensures in_place { IfOk result (λ keys. All (IsKeyInDefinitionPlace self.now.lines) keys.items) }
     {
         let keys = self.placed_keys_holding(alloc, &[])?;
         Ok(keys)
@@ -45,8 +45,9 @@ impl Deck {
         alloc: Global,
         text: &[u8],
     ) -> Result<Vec<PlacedKey<'_>>, AllocError>
-        ensures keys { IfOk result (λ keys. map placed_key keys.items ≡ keys_holding text.now (table self.now)) }
-        ensures in_place { IfOk result (λ keys. All (IsInPlace self.now.lines) keys.items) }
+        ensures keys { IfOk result
+            (λ keys. map placed_deck_key keys.items ≡ deck_keys_holding_text text.now (table_of_deck self.now)) }
+        ensures in_place { IfOk result (λ keys. All (IsKeyInDefinitionPlace self.now.lines) keys.items) }
     {
         key_order_law();
         let finder = Finder::new(text);
@@ -67,12 +68,13 @@ fn push_placed<'a>(
     finder: &Finder<'_>,
     kind: Kind,
 ) -> Result<(), AllocError>
-    requires places { ArePlaced store.now last.now }
-    requires placed { All (IsInPlace store.now.lines) keys.old.items }
-    ensures numbering { IsNumbering store.now }
-    ensures in_place { OnOk result (All (IsInPlace store.now.lines) keys.new.items) }
-    ensures keys { OnOk result (map placed_key keys.new.items ≡ map placed_key keys.old.items
-        ++ keys_where (is_found store.now.names last.now finder.now) kind 0 (names_of_kind store.now.names kind)) }
+    requires places { AreKeysInDefinitionPlaces store.now last.now }
+    requires placed { All (IsKeyInDefinitionPlace store.now.lines) keys.old.items }
+    ensures numbering { IsKeyNumbering store.now }
+    ensures in_place { OnOk result (All (IsKeyInDefinitionPlace store.now.lines) keys.new.items) }
+    ensures keys { OnOk result (map placed_deck_key keys.new.items ≡ map placed_deck_key keys.old.items
+        ++ deck_keys_where (is_deck_number_holding_text store.now.names last.now finder.now) kind 0
+        (key_number_names_of_kind store.now.names kind)) }
 {
     for number in 0..store.name_count(kind) {
         push_if_placed(keys, store, last, finder, KeyNumber { kind, number })?;
@@ -88,11 +90,12 @@ fn push_if_placed<'a>(
     finder: &Finder<'_>,
     n: KeyNumber,
 ) -> Result<(), AllocError>
-    requires places { ArePlaced store.now last.now }
-    requires placed { All (IsInPlace store.now.lines) keys.old.items }
-    ensures in_place { OnOk result (All (IsInPlace store.now.lines) keys.new.items) }
-    ensures keys { OnOk result (map placed_key keys.new.items ≡ map placed_key keys.old.items
-        ++ key_if (is_found store.now.names last.now finder.now n) (key_numbered store.now.names n)) }
+    requires places { AreKeysInDefinitionPlaces store.now last.now }
+    requires placed { All (IsKeyInDefinitionPlace store.now.lines) keys.old.items }
+    ensures in_place { OnOk result (All (IsKeyInDefinitionPlace store.now.lines) keys.new.items) }
+    ensures keys { OnOk result (map placed_deck_key keys.new.items ≡ map placed_deck_key keys.old.items
+        ++ deck_key_if (is_deck_number_holding_text store.now.names last.now finder.now n)
+        (key_numbered store.now.names n)) }
 {
     let Some(place) = last.get(n) else {
         return Ok(());
@@ -111,7 +114,7 @@ fn push_if_placed<'a>(
 // Sorts the keys.
 fn in_order(mut keys: Vec<PlacedKey<'_>>) -> Vec<PlacedKey<'_>>
     ensures same { IsPermutation keys.entry.items result.items }
-    ensures sorted { KeyOrderLaw → IsSortedByKey placed_key key_cmp result.items }
+    ensures sorted { KeyOrderLaw → IsSortedByKey placed_deck_key key_cmp result.items }
 {
     keys.sort_unstable_by(|a, b| compare(a, b));
     keys
@@ -119,14 +122,14 @@ fn in_order(mut keys: Vec<PlacedKey<'_>>) -> Vec<PlacedKey<'_>>
 
 // Compares two keys.
 fn compare(a: &PlacedKey<'_>, b: &PlacedKey<'_>) -> Ordering
-    ensures { result ≡ key_cmp (placed_key a.now) (placed_key b.now) }
+    ensures { result ≡ key_cmp (placed_deck_key a.now) (placed_deck_key b.now) }
 {
     a.name.cmp(b.name).then(rank(a.kind).cmp(&rank(b.kind)))
 }
 
 // Returns the rank of a kind in the order of kinds.
 fn rank(kind: Kind) -> u8
-    ensures { result ≡ kind_number kind }
+    ensures { result ≡ key_order_number kind }
 {
     match kind {
         Kind::Unit => 0,

@@ -2,7 +2,7 @@
 
 ghost use Rattle.std.specs.Prelude.{◌≡◌, ◌-◌, Ok, Some, IfOk, length, take};
 ghost use Rattle.std.specs.Bool.{OnTrue};
-ghost use Rattle.units_io.specs.NamedValues.{named_value};
+ghost use Rattle.units_io.specs.NamedValues.{named_text};
 ghost use Rattle.deck.specs.Edits as edit;
 ghost use Rattle.deck.specs.SettingChanges as changes;
 
@@ -20,8 +20,8 @@ impl Deck {
     /// keys whose entries change. The only error is running out of memory; then nothing changes. Makes one pass over
     /// the deck, however many variables there are, and none if the variable already has this value.
     pub fn set(&mut self, alloc: Global, name: &[u8], value: &[u8]) -> Result<Keys, DeckFault>
-        ensures { edit.IsEdit (Ok (edit.after_switch
-            (changes.with_variable self.old.settings name.now value.now) self.old)) self.old self.new result }
+        ensures { edit.IsDeckEdit (Ok (edit.deck_after_switching
+            (changes.settings_with_variable self.old.settings name.now value.now) self.old)) self.old self.new result }
     {
         if has_value(&self.settings, name, value) {
             return Ok(Keys::new(alloc));
@@ -39,8 +39,8 @@ impl Deck {
 
     /// Changes the locale, with the result, the error and the cost of `set`.
     pub fn set_locale(&mut self, alloc: Global, locale: &[u8]) -> Result<Keys, DeckFault>
-        ensures { edit.IsEdit (Ok (edit.after_switch
-            (changes.with_locale self.old.settings locale.now) self.old)) self.old self.new result }
+        ensures { edit.IsDeckEdit (Ok (edit.deck_after_switching
+            (changes.settings_with_locale self.old.settings locale.now) self.old)) self.old self.new result }
     {
         if self.settings.locale.as_bytes() == locale {
             return Ok(Keys::new(alloc));
@@ -57,8 +57,8 @@ impl Deck {
     /// Removes the last variable, if there is one, and returns the keys whose entries change. The only error is running
     /// out of memory; then nothing changes.
     pub fn unset_last(&mut self, alloc: Global) -> Result<Keys, DeckFault>
-        ensures { edit.IsEdit (Ok (edit.after_switch
-            (changes.without_last_variable self.old.settings) self.old)) self.old self.new result }
+        ensures { edit.IsDeckEdit (Ok (edit.deck_after_switching
+            (changes.settings_without_last_variable self.old.settings) self.old)) self.old self.new result }
     {
         let settings = without_last(alloc, &self.settings)?;
         self.switch(alloc, settings)
@@ -67,7 +67,7 @@ impl Deck {
 
 // Reports whether a variable has this value.
 fn has_value(settings: &Settings, name: &[u8], value: &[u8]) -> bool
-    ensures { OnTrue result (named_value settings.now.vars name.now ≡ Some value.now) }
+    ensures { OnTrue result (named_text settings.now.vars name.now ≡ Some value.now) }
 {
     match settings.vars.value(name) {
         Some(current) => current.as_bytes() == value,
@@ -77,7 +77,7 @@ fn has_value(settings: &Settings, name: &[u8], value: &[u8]) -> bool
 
 // Returns a copy of the settings without the last variable.
 fn without_last(alloc: Global, settings: &Settings) -> Result<Settings, AllocError>
-    ensures { IfOk result (λ made. made ≡ changes.without_last_variable settings.now) }
+    ensures { IfOk result (λ made. made ≡ changes.settings_without_last_variable settings.now) }
 {
     let locale = settings.locale.copy(alloc)?;
     let vars = all_but_last(alloc, &settings.vars)?;

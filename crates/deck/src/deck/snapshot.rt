@@ -2,7 +2,7 @@
 
 ghost use Rattle.std.specs.Prelude.{◌≡◌, IfOk, Some, option_map, slice_get};
 ghost use Rattle.def_entry.specs.LineViews.{seen_entry};
-ghost use Rattle.deck_lines.specs.Readings.{entry_in};
+ghost use Rattle.deck_lines.specs.Readings.{entry_in_store_line};
 ghost use Rattle.deck_lines.specs.declared.line.DeckLine.{DeckLine};
 
 use super::Deck;
@@ -47,7 +47,7 @@ fn copied_definition(
     place: usize,
 ) -> Result<Option<(Key, What)>, AllocError>
     ensures { IfOk result (λ copy. (line : DeckLine) → slice_get store.now.lines place ≡ Some line
-        → option_map (seen_entry line.text) copy ≡ entry_in line) }
+        → option_map (seen_entry line.text) copy ≡ entry_in_store_line line) }
 {
     let Some(number) = store.key_number(place) else {
         return Ok(None);

@@ -1,12 +1,12 @@
 //! Replacing lines by others.
 
 ghost use Rattle.std.specs.Prelude.{◌≡◌, ◌≤◌, ◌+◌, ◌↔◌, length, map, IfOk, IsTrue};
-ghost use Rattle.deck_lines.specs.StoredDefinitions.{IsDefined};
-ghost use Rattle.deck_lines.specs.Readings.{entry_in};
-ghost use Rattle.deck.specs.Changes.{IsTableChange};
-ghost use Rattle.deck.specs.LastPlaces.{AreLast, IsIndexed};
+ghost use Rattle.deck_lines.specs.StoredDefinitions.{IsStoreDefined};
+ghost use Rattle.deck_lines.specs.Readings.{entry_in_store_line};
+ghost use Rattle.deck.specs.Changes.{IsDeckTableChange};
+ghost use Rattle.deck.specs.LastPlaces.{AreLastDefinitionPlaces, IsDeckIndexed};
 ghost use Rattle.deck.specs.Splices as splices;
-ghost use Rattle.deck.specs.Tables.{active_definitions, table_of};
+ghost use Rattle.deck.specs.Tables.{active_definitions, table_of_deck_definitions};
 
 use super::Deck;
 use crate::places::{LastPlaces, keys_between};
@@ -21,7 +21,7 @@ impl Deck {
     /// Returns whether a splice can be made: the lines that it removes exist, and the resulting lines are closed and
     /// within the limits. The only error is running out of memory. Makes one pass over the deck.
     pub fn can_splice(&self, alloc: Global, change: &Splice) -> Result<bool, AllocError>
-        ensures { IfOk result (λ can. IsTrue can ↔ splices.CanSplice change.now self.now) }
+        ensures { IfOk result (λ can. IsTrue can ↔ splices.CanSpliceDeck change.now self.now) }
     {
         let put = change.put.as_slice();
         can_exchange(alloc, &self.store, change.at, change.cut, put)
@@ -35,8 +35,8 @@ impl Deck {
         alloc: Global,
         change: Splice,
     ) -> Result<(Keys, Splice), (Splice, AllocError)>
-        requires { splices.CanSplice change self.old }
-        ensures { splices.IsSpliced change self.old self.new result }
+        requires { splices.CanSpliceDeck change self.old }
+        ensures { splices.IsDeckSpliced change self.old self.new result }
     {
         let result = self.replace_lines(alloc, change);
         self.renumber_if_sparse(alloc);
@@ -49,8 +49,8 @@ impl Deck {
         alloc: Global,
         change: Splice,
     ) -> Result<(Keys, Splice), (Splice, AllocError)>
-        requires { splices.CanSplice change self.old }
-        ensures { splices.IsSpliced change self.old self.new result }
+        requires { splices.CanSpliceDeck change self.old }
+        ensures { splices.IsDeckSpliced change self.old self.new result }
     {
         self.covered_lines = None;
         let Ok(changes) = find_changes(alloc, &mut self.store, &self.last, &self.settings, &change)
@@ -101,16 +101,17 @@ fn find_changes(
     change: &Splice,
 ) -> Result<SpliceChanges, AllocError>
     requires places { change.now.at + change.now.cut ≤ length store.old.lines }
-    requires indexed { IsIndexed store.old settings.now last.now }
+    requires indexed { IsDeckIndexed store.old settings.now last.now }
     ensures lines { store.new.lines ≡ store.old.lines }
-    ensures indexed { IsIndexed store.new settings.now last.now }
+    ensures indexed { IsDeckIndexed store.new settings.now last.now }
     ensures defined { IfOk result (λ found.
-        IsDefined store.new.names found.definitions.of_lines.items (map entry_in change.now.put)) }
-    ensures last { IfOk result (λ found. AreLast store.new.names
-        (active_definitions change.now.settings (splices.spliced_lines change.now store.old.lines)) found.last) }
-    ensures keys { IfOk result (λ found. IsTableChange (table_of (active_definitions settings.now store.old.lines))
-        (table_of (active_definitions change.now.settings (splices.spliced_lines change.now store.old.lines)))
-        found.keys) }
+        IsStoreDefined store.new.names found.definitions.of_lines.items (map entry_in_store_line change.now.put)) }
+    ensures last { IfOk result (λ found. AreLastDefinitionPlaces store.new.names
+        (active_definitions change.now.settings (splices.spliced_deck_lines change.now store.old.lines)) found.last) }
+    ensures keys { IfOk result
+        (λ found. IsDeckTableChange (table_of_deck_definitions (active_definitions settings.now store.old.lines))
+        (table_of_deck_definitions
+        (active_definitions change.now.settings (splices.spliced_deck_lines change.now store.old.lines))) found.keys) }
 {
     let put = change.put.as_slice();
     let definitions = store.read(alloc, put)?;

@@ -14,7 +14,7 @@ impl Deck {
     /// Replaces the settings, and returns the keys whose entries change. The only error is running out of memory; then
     /// nothing changes. Makes one pass over the deck.
     pub fn switch(&mut self, alloc: Global, settings: Settings) -> Result<Keys, DeckFault>
-        ensures { edit.IsEdit (Ok (edit.after_switch settings self.old)) self.old self.new result }
+        ensures { edit.IsDeckEdit (Ok (edit.deck_after_switching settings self.old)) self.old self.new result }
     {
         let last = LastPlaces::under(alloc, &settings, &self.store)?;
         let keys = changed_keys(alloc, &self.store, &self.last, &last)?;

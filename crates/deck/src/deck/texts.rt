@@ -1,7 +1,7 @@
 //! The messages of the active lines.
 
 ghost use Rattle.std.specs.Prelude.{◌≡◌, ◌++◌, ◌∷◌, [], IfOk, OnOk, if◌then◌else◌};
-ghost use Rattle.def_lines.specs.Kinds.{kind_of};
+ghost use Rattle.def_lines.specs.Kinds.{kind_of_line};
 ghost use Rattle.deck.specs.Messages as spec;
 
 use super::Deck;
@@ -13,7 +13,7 @@ use units_io::{Text, Texts};
 impl Deck {
     /// Returns the texts of the active message lines, in order. The only error is running out of memory.
     pub fn messages(&self, alloc: Global) -> Result<Texts, AllocError>
-        ensures { IfOk result (λ texts. texts ≡ spec.messages self.now) }
+        ensures { IfOk result (λ texts. texts ≡ spec.deck_messages self.now) }
     {
         let flags = active_flags(alloc, &self.store, &self.settings)?;
         let mut texts = Texts::new(alloc);
@@ -31,7 +31,8 @@ fn push_message(
     active: bool,
     line: &[u8],
 ) -> Result<(), AllocError>
-    ensures { OnOk result (texts.new ≡ texts.old ++ (if active then spec.message_of (kind_of line.now) else [])) }
+    ensures { OnOk result (texts.new ≡ texts.old
+        ++ (if active then spec.deck_message_of_kind (kind_of_line line.now) else [])) }
 {
     match classify(line) {
         LineKind::Message(text) => push_if(alloc, texts, active, text),

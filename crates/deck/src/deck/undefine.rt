@@ -21,8 +21,8 @@ impl Deck {
         alloc: Global,
         uncovered: Option<usize>,
     ) -> Result<(Keys, Text), AllocError>
-        requires { spec.CanUndefine uncovered self.old }
-        ensures ok { IfOk result (λ done. spec.IsLineRemoved self.old self.new done) }
+        requires { spec.CanUndefineDeckLine uncovered self.old }
+        ensures ok { IfOk result (λ done. spec.IsDeckLineRemoved self.old self.new done) }
         ensures err { OnErr result (self.new ≡ self.old) }
     {
         let result = self.take_out_line(alloc, uncovered);
@@ -36,8 +36,8 @@ impl Deck {
         alloc: Global,
         uncovered: Option<usize>,
     ) -> Result<(Keys, Text), AllocError>
-        requires { spec.CanUndefine uncovered self.old }
-        ensures ok { IfOk result (λ done. spec.IsLineRemoved self.old self.new done) }
+        requires { spec.CanUndefineDeckLine uncovered self.old }
+        ensures ok { IfOk result (λ done. spec.IsDeckLineRemoved self.old self.new done) }
         ensures err { OnErr result (self.new ≡ self.old) }
     {
         same_text_law();

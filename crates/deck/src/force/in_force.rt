@@ -2,7 +2,7 @@
 
 ghost use Rattle.std.specs.Prelude.{◌≡◌, IfNone};
 ghost use Rattle.std.specs.Option.{option_copied};
-ghost use Rattle.units_io.specs.NamedValues.{HasNoName, named_value, with_value};
+ghost use Rattle.units_io.specs.NamedValues.{HasNoTextOfName, named_text, with_named_text};
 ghost use Rattle.deck.specs.SettingChanges as changes;
 
 use crate::settings::Settings;
@@ -25,12 +25,12 @@ pub(crate) struct NewValue<'a> {
 }
 
 impl<'a> Model for InForce<'a> {
-    ghost use Rattle.deck.specs.InForce.{changed_vars};
+    ghost use Rattle.deck.specs.InForce.{changed_setting_variables};
     ghost use Rattle.deck.specs.declared.settings.Settings.{Settings};
 
     ghost Value = { Settings };
 
-    ghost view = { λ s. record { locale = s.locale.now; vars = changed_vars s.change s.vars.now } };
+    ghost view = { λ s. record { locale = s.locale.now; vars = changed_setting_variables s.change s.vars.now } };
 }
 
 impl<'a> InForce<'a> {
@@ -51,7 +51,7 @@ impl<'a> InForce<'a> {
         name: &'a [u8],
         value: &'a Text,
     ) -> InForce<'a>
-        ensures { result ≡ changes.with_variable settings.now name.now value.now }
+        ensures { result ≡ changes.settings_with_variable settings.now name.now value.now }
     {
         InForce {
             locale: settings.locale.as_bytes(),
@@ -62,7 +62,7 @@ impl<'a> InForce<'a> {
 
     /// Returns these settings with this locale.
     pub(crate) fn with_locale(settings: &'a Settings, locale: &'a [u8]) -> InForce<'a>
-        ensures { result ≡ changes.with_locale settings.now locale.now }
+        ensures { result ≡ changes.settings_with_locale settings.now locale.now }
     {
         InForce {
             locale,
@@ -85,8 +85,8 @@ impl<'a> InForce<'a> {
 
     /// Returns the value of a variable, or `None` if it is not set.
     pub(crate) fn value(&self, name: &[u8]) -> Option<&Text>
-        ensures value { option_copied result ≡ named_value self.now.vars name.now }
-        ensures absent { IfNone result (HasNoName self.now.vars name.now) }
+        ensures value { option_copied result ≡ named_text self.now.vars name.now }
+        ensures absent { IfNone result (HasNoTextOfName self.now.vars name.now) }
     {
         match &self.change {
             Some(change) => changed_value(self.vars, change, name),
@@ -98,9 +98,9 @@ impl<'a> InForce<'a> {
 // Returns the value of a variable, given the variables and a change of one of them.
 fn changed_value<'a>(vars: &'a Vars, change: &NewValue<'a>, name: &[u8]) -> Option<&'a Text>
     ensures value { option_copied result
-        ≡ named_value (with_value vars.now change.now.name.now change.now.value.now) name.now }
+        ≡ named_text (with_named_text vars.now change.now.name.now change.now.value.now) name.now }
     ensures absent { IfNone result
-        (HasNoName (with_value vars.now change.now.name.now change.now.value.now) name.now) }
+        (HasNoTextOfName (with_named_text vars.now change.now.name.now change.now.value.now) name.now) }
 {
     if name == change.name {
         return Some(change.value);

@@ -2,7 +2,7 @@
 
 ghost use Rattle.std.specs.Prelude.{◌≡◌, ℕ, [], OnOk, IfNone};
 ghost use Rattle.std.specs.Option.{option_copied};
-ghost use Rattle.units_io.specs.NamedValues.{HasNoName, named_value};
+ghost use Rattle.units_io.specs.NamedValues.{HasNoTextOfName, named_text};
 ghost use Rattle.deck_lines.specs.declared.line.DeckLine.{DeckLine};
 ghost use Rattle.deck.specs.Active as spec;
 
@@ -24,10 +24,10 @@ pub(crate) struct Surroundings<'a> {
 
 impl<'a> Model for Surroundings<'a> {
     ghost use Rattle.std.specs.Prelude.{◌≡◌, ◌++◌, reverse};
-    ghost use Rattle.deck.specs.Active.{Surroundings};
-    ghost use Rattle.deck.specs.FailingBlocks.{failing_count};
+    ghost use Rattle.deck.specs.Active.{DeckSurroundings};
+    ghost use Rattle.deck.specs.FailingBlocks.{failing_enclosing_count};
 
-    ghost Value = { Surroundings };
+    ghost Value = { DeckSurroundings };
 
     ghost view = { λ around. record {
       conditions = reverse around.holds.items;
@@ -35,7 +35,7 @@ impl<'a> Model for Surroundings<'a> {
           ++ around.set;
     } };
 
-    ghost invariant = { λ around. around.failing ≡ failing_count (reverse around.holds.items) };
+    ghost invariant = { λ around. around.failing ≡ failing_enclosing_count (reverse around.holds.items) };
 }
 
 impl<'a> Surroundings<'a> {
@@ -53,13 +53,13 @@ impl<'a> Surroundings<'a> {
 
     /// Reports whether a line with this mark is active here. The cost does not depend on the depth of the blocks.
     pub(crate) fn is_active(&self, mark: bool) -> bool
-        ensures { (line : DeckLine) → line.mark ≡ mark → result ≡ spec.is_active self.now line }
+        ensures { (line : DeckLine) → line.mark ≡ mark → result ≡ spec.is_active_line self.now line }
     {
         !mark && self.all_hold()
     }
 
     /// Updates the state for a line.
-    #[tactic(auto, unfolding(crate::specs::Active::behind_line))]
+    #[tactic(auto, unfolding(crate::specs::Active::deck_surroundings_after_line))]
     pub(crate) fn pass(
         &mut self,
         alloc: Global,
@@ -68,7 +68,8 @@ impl<'a> Surroundings<'a> {
         mark: bool,
     ) -> Result<(), AllocError>
         ensures { (number : ℕ) → OnOk result (self.new
-            ≡ spec.behind_line locale.now self.old (record { number = number; text = text.now; mark = mark })) }
+            ≡ spec.deck_surroundings_after_line locale.now self.old
+            (record { number = number; text = text.now; mark = mark })) }
     {
         if mark {
             return Ok(());
@@ -88,16 +89,16 @@ impl<'a> Surroundings<'a> {
     }
 
     // Reports whether all enclosing blocks hold.
-    #[tactic(auto, using(crate::proofs::BlockFailures::all_hold_by))]
+    #[tactic(auto, using(crate::proofs::BlockFailures::enclosing_hold_if_none_fails))]
     fn all_hold(&self) -> bool
-        ensures { result ≡ spec.all_hold self.now }
+        ensures { result ≡ spec.all_enclosing_blocks_hold self.now }
     {
         self.failing == 0
     }
 
     // Enters a block.
     fn enter(&mut self, holds: bool) -> Result<(), AllocError>
-        ensures { OnOk result (self.new ≡ spec.in_block holds self.old) }
+        ensures { OnOk result (self.new ≡ spec.deck_surroundings_in_block holds self.old) }
     {
         self.holds.push(holds)?;
         if !holds {
@@ -108,7 +109,7 @@ impl<'a> Surroundings<'a> {
 
     // Leaves the innermost block, if there is one.
     fn leave(&mut self)
-        ensures { self.new ≡ spec.out_of_block self.old }
+        ensures { self.new ≡ spec.deck_surroundings_out_of_block self.old }
     {
         if let Some(holds) = self.holds.pop() {
             if !holds {
@@ -119,8 +120,8 @@ impl<'a> Surroundings<'a> {
 
     // Returns the value of a variable, or `None` if it is not set.
     fn value(&self, name: &[u8]) -> Option<&Text>
-        ensures value { option_copied result ≡ named_value self.now.vars name.now }
-        ensures absent { IfNone result (HasNoName self.now.vars name.now) }
+        ensures value { option_copied result ≡ named_text self.now.vars name.now }
+        ensures absent { IfNone result (HasNoTextOfName self.now.vars name.now) }
     {
         match self.base.value(name) {
             Some(value) => Some(value),
@@ -130,7 +131,7 @@ impl<'a> Surroundings<'a> {
 
     // Reports whether the variable is set and has one of these values.
     fn is_value_listed(&self, name: &[u8], values: &[u8]) -> bool
-        ensures { result ≡ spec.is_value_listed values.now (named_value self.now.vars name.now) }
+        ensures { result ≡ spec.is_setting_value_listed values.now (named_text self.now.vars name.now) }
     {
         match self.value(name) {
             Some(value) => is_listed(values, value.as_bytes()),
@@ -140,7 +141,7 @@ impl<'a> Surroundings<'a> {
 
     // Sets a variable if all enclosing blocks hold and it is not set yet.
     fn set(&mut self, alloc: Global, name: &[u8], value: &[u8]) -> Result<(), AllocError>
-        ensures { OnOk result (self.new ≡ spec.with_var name.now value.now self.old) }
+        ensures { OnOk result (self.new ≡ spec.deck_surroundings_with_variable name.now value.now self.old) }
     {
         if !self.all_hold() || self.value(name).is_some() {
             return Ok(());

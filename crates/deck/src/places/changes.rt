@@ -4,12 +4,13 @@ ghost use Rattle.std.specs.Prelude.{◌≡◌, ◌++◌, IfOk, OnOk, not, option
 ghost use Rattle.std.specs.Bool.{OnTrue};
 ghost use Rattle.def_entry.specs.Views.{entry_view};
 ghost use Rattle.deck_lines.specs.StoreEdits.{store_after, store_before};
-ghost use Rattle.deck_lines.specs.Names.{key_numbered, names_of_kind};
-ghost use Rattle.deck_lines.specs.KeyNumbering.{IsNumbering};
-ghost use Rattle.deck.specs.Changes.{IsTableChange, is_same_entry};
-ghost use Rattle.deck.specs.LastPlaces.{AreLast};
-ghost use Rattle.deck.specs.Numbers.{AreInPlace, differs, entry_there, key_if, keys_where};
-ghost use Rattle.deck.specs.Tables.{Definitions, table_of};
+ghost use Rattle.deck_lines.specs.Names.{key_number_names_of_kind, key_numbered};
+ghost use Rattle.deck_lines.specs.KeyNumbering.{IsKeyNumbering};
+ghost use Rattle.deck.specs.Changes.{IsDeckTableChange, is_same_deck_entry};
+ghost use Rattle.deck.specs.LastPlaces.{AreLastDefinitionPlaces};
+ghost use Rattle.deck.specs.Numbers.{AreDefinitionsInPlace, deck_entry_at_place, deck_key_if, deck_keys_where};
+ghost use Rattle.deck.specs.Numbers.{is_entry_changed_by_edit};
+ghost use Rattle.deck.specs.Tables.{DeckDefinitions, table_of_deck_definitions};
 
 use super::last_places::LastPlaces;
 use deck_lines::{EditedLines, KeyNumber, LineStore};
@@ -24,9 +25,10 @@ pub(crate) fn changed_keys(
     before: &LastPlaces,
     after: &LastPlaces,
 ) -> Result<Keys, AllocError>
-    ensures { IfOk result (λ keys. (ds es : Definitions) → AreInPlace store.now.lines ds → AreInPlace store.now.lines es
-        → AreLast store.now.names ds before.now → AreLast store.now.names es after.now
-        → IsTableChange (table_of ds) (table_of es) keys) }
+    ensures { IfOk result (λ keys. (ds es : DeckDefinitions) → AreDefinitionsInPlace store.now.lines ds
+        → AreDefinitionsInPlace store.now.lines es
+        → AreLastDefinitionPlaces store.now.names ds before.now → AreLastDefinitionPlaces store.now.names es after.now
+        → IsDeckTableChange (table_of_deck_definitions ds) (table_of_deck_definitions es) keys) }
 {
     keys_between(alloc, &EditedLines::without_change(store), before, after)
 }
@@ -38,10 +40,10 @@ pub(crate) fn keys_between(
     before: &LastPlaces,
     after: &LastPlaces,
 ) -> Result<Keys, AllocError>
-    ensures { IfOk result (λ keys. (ds es : Definitions)
-        → AreInPlace edited.now.old_lines ds → AreInPlace edited.now.new_lines es
-        → AreLast edited.now.names ds before.now → AreLast edited.now.names es after.now
-        → IsTableChange (table_of ds) (table_of es) keys) }
+    ensures { IfOk result (λ keys. (ds es : DeckDefinitions)
+        → AreDefinitionsInPlace edited.now.old_lines ds → AreDefinitionsInPlace edited.now.new_lines es
+        → AreLastDefinitionPlaces edited.now.names ds before.now → AreLastDefinitionPlaces edited.now.names es after.now
+        → IsDeckTableChange (table_of_deck_definitions ds) (table_of_deck_definitions es) keys) }
 {
     same_text_law();
     let mut keys = Keys::new(alloc);
@@ -60,9 +62,9 @@ pub(crate) fn changed_key(
     before: Option<usize>,
     after: Option<usize>,
 ) -> Result<Keys, AllocError>
-    ensures { IfOk result (λ keys. keys ≡ key_if
-        (not (is_same_entry (entry_there store.now.lines before) (entry_there store.now.lines after)))
-        (key_numbered store.now.names n)) }
+    ensures { IfOk result (λ keys. keys ≡ deck_key_if
+        (not (is_same_deck_entry (deck_entry_at_place store.now.lines before)
+        (deck_entry_at_place store.now.lines after))) (key_numbered store.now.names n)) }
 {
     let mut keys = Keys::new(alloc);
     let edited = EditedLines::without_change(store);
@@ -79,10 +81,11 @@ fn push_changed(
     after: &LastPlaces,
     kind: Kind,
 ) -> Result<(), AllocError>
-    ensures numbering_before { IsNumbering (store_before edited.now) }
-    ensures numbering_after { IsNumbering (store_after edited.now) }
+    ensures numbering_before { IsKeyNumbering (store_before edited.now) }
+    ensures numbering_after { IsKeyNumbering (store_after edited.now) }
     ensures keys { OnOk result (keys.new ≡ keys.old
-        ++ keys_where (differs edited.now before.now after.now) kind 0 (names_of_kind edited.now.names kind)) }
+        ++ deck_keys_where (is_entry_changed_by_edit edited.now before.now after.now) kind 0
+        (key_number_names_of_kind edited.now.names kind)) }
 {
     for number in 0..edited.name_count(kind) {
         push_if_changed(
@@ -107,7 +110,7 @@ fn push_if_changed(
     n: KeyNumber,
 ) -> Result<(), AllocError>
     ensures { OnOk result (keys.new ≡ keys.old
-        ++ key_if (differs edited.now before.now after.now n) (key_numbered edited.now.names n)) }
+        ++ deck_key_if (is_entry_changed_by_edit edited.now before.now after.now n) (key_numbered edited.now.names n)) }
 {
     push_between(alloc, keys, edited, n, before.get(n), after.get(n))
 }
@@ -122,9 +125,9 @@ fn push_between(
     before: Option<usize>,
     after: Option<usize>,
 ) -> Result<(), AllocError>
-    ensures { OnOk result (keys.new ≡ keys.old ++ key_if
-        (not (is_same_entry (entry_there edited.now.old_lines before) (entry_there edited.now.new_lines after)))
-        (key_numbered edited.now.names n)) }
+    ensures { OnOk result (keys.new ≡ keys.old ++ deck_key_if
+        (not (is_same_deck_entry (deck_entry_at_place edited.now.old_lines before)
+        (deck_entry_at_place edited.now.new_lines after))) (key_numbered edited.now.names n)) }
 {
     if !is_changed(edited, before, after) {
         return Ok(());
@@ -140,8 +143,8 @@ fn push_between(
 // Reports whether the entries at a place before the edit and at a place after it have different texts, or only one of
 // them exists.
 fn is_changed(edited: &EditedLines<'_>, before: Option<usize>, after: Option<usize>) -> bool
-    ensures { result ≡ not (is_same_entry (entry_there edited.now.old_lines before)
-        (entry_there edited.now.new_lines after)) }
+    ensures { result ≡ not (is_same_deck_entry (deck_entry_at_place edited.now.old_lines before)
+        (deck_entry_at_place edited.now.new_lines after)) }
 {
     if is_one_line(edited, before, after) {
         return false;
@@ -156,7 +159,8 @@ fn is_changed(edited: &EditedLines<'_>, before: Option<usize>, after: Option<usi
 
 // Returns true only if the same line is at both places, so that no text has to be compared.
 fn is_one_line(edited: &EditedLines<'_>, before: Option<usize>, after: Option<usize>) -> bool
-    ensures { OnTrue result (entry_there edited.now.new_lines after ≡ entry_there edited.now.old_lines before) }
+    ensures { OnTrue result (deck_entry_at_place edited.now.new_lines after
+        ≡ deck_entry_at_place edited.now.old_lines before) }
 {
     match (before, after) {
         (Some(before), Some(after)) => edited.is_left(before, after),
@@ -166,7 +170,7 @@ fn is_one_line(edited: &EditedLines<'_>, before: Option<usize>, after: Option<us
 
 // Returns the entry at a place, if there is one.
 fn entry_at<'a>(edited: &'a EditedLines<'_>, place: Option<usize>) -> Option<Entry<'a>>
-    ensures { option_map entry_view result ≡ entry_there edited.now.new_lines place }
+    ensures { option_map entry_view result ≡ deck_entry_at_place edited.now.new_lines place }
 {
     match place {
         Some(place) => edited.entry(place),

@@ -1,13 +1,13 @@
 //! The lines that active lines cover.
 
-ghost use Rattle.std.specs.Prelude.{◌≡◌, ◌<◌, ◌+◌, ◌++◌, ◌∷◌, [], Option, ℕ, IfOk, IfSome, OnOk, length, map, option_map};
-ghost use Rattle.std.specs.Prelude.{Some, slice_get, take};
+ghost use Rattle.std.specs.Prelude.{◌≡◌, ◌<◌, ◌+◌, ◌++◌, ◌∷◌, [], Option, ℕ, IfOk, IfSome, OnOk, length, map};
+ghost use Rattle.std.specs.Prelude.{option_map, Some, slice_get, take};
 ghost use Rattle.std.specs.List.{remove};
 ghost use Rattle.def_entry.specs.Entries as entries;
 ghost use Rattle.def_entry.specs.declared.key.Key as key_spec;
-ghost use Rattle.gap_list.specs.Gaps.{place_without, without_gap};
-ghost use Rattle.deck.specs.CoveredLines.{AreBelow, MayCover};
-ghost use Rattle.deck.specs.Tables.{Definitions, place_of};
+ghost use Rattle.gap_list.specs.Gaps.{place_without_gaps, without_gap};
+ghost use Rattle.deck.specs.CoveredLines.{AreDefinitionPlacesBelow, MayCoverDefinitions};
+ghost use Rattle.deck.specs.Tables.{DeckDefinitions, definition_place_of};
 
 use super::kind_places::place_of;
 use gap_list::{GapList, Gaps};
@@ -24,11 +24,11 @@ pub(crate) struct CoveredLines {
 
 impl Model for CoveredLines {
     ghost use Rattle.std.specs.Prelude.{ℕ, List, Option, map, option_map};
-    ghost use Rattle.gap_list.specs.Gaps.{place_without};
+    ghost use Rattle.gap_list.specs.Gaps.{place_without_gaps};
 
     ghost Value = { List (Option ℕ) };
 
-    ghost view = { λ c. map (option_map (place_without c.gaps)) c.slots.listed };
+    ghost view = { λ c. map (option_map (place_without_gaps c.gaps)) c.slots.listed };
 }
 
 impl CoveredLines {
@@ -86,7 +86,7 @@ impl CoveredLines {
 
 // Returns the slot of a place, if there is one. The error is a slot with too large a number.
 fn slot_of(gaps: &Gaps, place: Option<usize>) -> Result<Option<usize>, AllocError>
-    ensures { IfOk result (λ slot. option_map (place_without gaps.now) slot ≡ place) }
+    ensures { IfOk result (λ slot. option_map (place_without_gaps gaps.now) slot ≡ place) }
 {
     let Some(place) = place else {
         return Ok(None);
@@ -114,8 +114,9 @@ pub(crate) fn without_line(mut covered: CoveredLines, place: usize) -> Option<Co
 
 /// Appends the place that one more line covers, if the others are known. Returns `None` without memory.
 pub(crate) fn with_line(covered: Option<CoveredLines>, place: Option<usize>) -> Option<CoveredLines>
-    ensures { (count : ℕ) (ds : Definitions) (k : key_spec.Key) (e : entries.Entry) → MayCover count ds covered
-        → place ≡ place_of ds k → MayCover (count + 1) ((k, (count, e)) ∷ ds) result }
+    ensures { (count : ℕ) (ds : DeckDefinitions) (k : key_spec.Key) (e : entries.Entry)
+        → MayCoverDefinitions count ds covered
+        → place ≡ definition_place_of ds k → MayCoverDefinitions (count + 1) ((k, (count, e)) ∷ ds) result }
 {
     let Some(mut lines) = covered else {
         return None;
@@ -128,8 +129,8 @@ pub(crate) fn with_line(covered: Option<CoveredLines>, place: Option<usize>) -> 
 
 /// Keeps only the places that the first `len` lines cover, if they are known.
 pub(crate) fn first_lines(covered: Option<CoveredLines>, len: usize) -> Option<CoveredLines>
-    ensures { (count : ℕ) (ds : Definitions) → len < count → AreBelow len ds → MayCover count ds covered
-        → MayCover len ds result }
+    ensures { (count : ℕ) (ds : DeckDefinitions) → len < count → AreDefinitionPlacesBelow len ds
+        → MayCoverDefinitions count ds covered → MayCoverDefinitions len ds result }
 {
     let Some(mut lines) = covered else {
         return None;

@@ -3,10 +3,11 @@
 ghost use Rattle.std.specs.Prelude.{◌≡◌, ◌++◌, Some, IfOk, length, true};
 ghost use Rattle.def_entry.specs.Entries as entries;
 ghost use Rattle.def_entry.specs.declared.key.Key as key_spec;
-ghost use Rattle.deck_lines.specs.Stores.{definition_at};
-ghost use Rattle.deck.specs.CoveredLines.{MayCover};
-ghost use Rattle.deck.specs.LastPlaces.{AreLast, HasPlaceRoom};
-ghost use Rattle.deck.specs.Tables.{Definitions, active_definitions, definition_by, definitions_among, place_of};
+ghost use Rattle.deck_lines.specs.Stores.{store_definition_at};
+ghost use Rattle.deck.specs.CoveredLines.{MayCoverDefinitions};
+ghost use Rattle.deck.specs.LastPlaces.{AreLastDefinitionPlaces, HasDefinitionPlaceRoom};
+ghost use Rattle.deck.specs.Tables.{DeckDefinitions, active_definitions, active_definitions_among};
+ghost use Rattle.deck.specs.Tables.{definition_of_active_line, definition_place_of};
 
 use super::covered_lines::CoveredLines;
 use super::last_places::LastPlaces;
@@ -22,7 +23,7 @@ pub(crate) fn find_covered_lines(
     store: &LineStore,
     settings: &Settings,
 ) -> Result<CoveredLines, AllocError>
-    ensures { IfOk result (λ covered. MayCover (length store.now.lines)
+    ensures { IfOk result (λ covered. MayCoverDefinitions (length store.now.lines)
         (active_definitions settings.now store.now.lines) (Some covered)) }
 {
     let flags = active_flags(alloc, store, settings)?;
@@ -36,8 +37,8 @@ fn covered_lines_among(
     flags: &[bool],
 ) -> Result<CoveredLines, AllocError>
     requires { length flags.now ≡ length edited.now.new_lines }
-    ensures { IfOk result (λ covered. MayCover (length edited.now.new_lines)
-        (definitions_among flags.now edited.now.new_lines) (Some covered)) }
+    ensures { IfOk result (λ covered. MayCoverDefinitions (length edited.now.new_lines)
+        (active_definitions_among flags.now edited.now.new_lines) (Some covered)) }
 {
     let mut last = with_room(alloc, edited)?;
     let mut covered = CoveredLines::new(alloc);
@@ -56,8 +57,10 @@ fn covered_place(
     active: bool,
     place: usize,
 ) -> Option<usize>
-    ensures { (ds : Definitions) (k : key_spec.Key) (e : entries.Entry) → AreLast edited.now.names ds last.now
-        → active ≡ true → definition_at edited.now.new_lines place ≡ Some (k, e) → result ≡ place_of ds k }
+    ensures { (ds : DeckDefinitions) (k : key_spec.Key) (e : entries.Entry)
+        → AreLastDefinitionPlaces edited.now.names ds last.now
+        → active ≡ true → store_definition_at edited.now.new_lines place ≡ Some (k, e) → result
+        ≡ definition_place_of ds k }
 {
     if !active {
         return None;

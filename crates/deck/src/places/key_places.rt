@@ -1,9 +1,9 @@
 //! The places of keys of all kinds.
 
 ghost use Rattle.std.specs.Prelude.{◌≡◌, ◌<◌, [], map, length, set, option_map, OnOk, if◌then◌else◌};
-ghost use Rattle.gap_list.specs.Gaps.{place_without, without_gap};
+ghost use Rattle.gap_list.specs.Gaps.{place_without_gaps, without_gap};
 ghost use Rattle.def_entry.specs.declared.key.Kind as key_kind;
-ghost use Rattle.def_entry.specs.SameKeys.{is_same_kind};
+ghost use Rattle.def_entry.specs.SameKeys.{is_same_key_kind};
 ghost use Rattle.deck.specs.KindPlaces as kind_spec;
 ghost use Rattle.deck.specs.LastPlaces as spec;
 
@@ -25,7 +25,7 @@ pub(crate) struct KeyPlaces {
 impl KeyPlaces {
     /// Returns empty tables of places.
     pub(crate) fn new(alloc: Global) -> KeyPlaces
-        ensures { (kind : key_kind.Kind) → spec.kind_places result kind ≡ [] }
+        ensures { (kind : key_kind.Kind) → spec.definition_places_of_kind result kind ≡ [] }
     {
         KeyPlaces {
             units: KindPlaces::new(alloc),
@@ -37,14 +37,14 @@ impl KeyPlaces {
 
     /// Returns the place of the key with this number, if it has one.
     pub(crate) fn get(&self, n: KeyNumber) -> Option<usize>
-        ensures { result ≡ kind_spec.place_in (spec.kind_places self.now n.kind) n.number }
+        ensures { result ≡ kind_spec.definition_place_in (spec.definition_places_of_kind self.now n.kind) n.number }
     {
         self.of_kind(n.kind).get(n.number)
     }
 
     /// Returns the number of keys of a kind that have a place.
     pub(crate) fn count(&self, kind: Kind) -> usize
-        ensures { result ≡ kind_spec.place_count (spec.kind_places self.now kind) }
+        ensures { result ≡ kind_spec.definition_place_count (spec.definition_places_of_kind self.now kind) }
     {
         self.of_kind(kind).count()
     }
@@ -59,10 +59,12 @@ impl KeyPlaces {
     /// Makes room for the place of the key with this number. All places stay.
     pub(crate) fn make_room(&mut self, kind: Kind, number: usize) -> Result<(), AllocError>
         ensures same { (k : key_kind.Kind)
-            → kind_spec.HasSamePlaces (spec.kind_places self.old k) (spec.kind_places self.new k) }
-        ensures others { (k : key_kind.Kind) → spec.kind_places self.new k
-            ≡ (if is_same_kind k kind then spec.kind_places self.new k else spec.kind_places self.old k) }
-        ensures ok { OnOk result (number < length (spec.kind_places self.new kind)) }
+            → kind_spec.HasSameDefinitionPlaces (spec.definition_places_of_kind self.old k)
+            (spec.definition_places_of_kind self.new k) }
+        ensures others { (k : key_kind.Kind) → spec.definition_places_of_kind self.new k
+            ≡ (if is_same_key_kind k kind then spec.definition_places_of_kind self.new k else
+            spec.definition_places_of_kind self.old k) }
+        ensures ok { OnOk result (number < length (spec.definition_places_of_kind self.new kind)) }
     {
         match kind {
             Kind::Unit => self.units.make_room(number),
@@ -74,11 +76,11 @@ impl KeyPlaces {
 
     /// Sets or removes the place of the key with this number. Allocates no memory.
     pub(crate) fn restore(&mut self, n: KeyNumber, place: Option<usize>)
-        requires { n.number < length (spec.kind_places self.old n.kind) }
-        ensures { (kind : key_kind.Kind) → spec.kind_places self.new kind
-            ≡ (if is_same_kind kind n.kind
-            then set (spec.kind_places self.old kind) n.number place
-            else spec.kind_places self.old kind) }
+        requires { n.number < length (spec.definition_places_of_kind self.old n.kind) }
+        ensures { (kind : key_kind.Kind) → spec.definition_places_of_kind self.new kind
+            ≡ (if is_same_key_kind kind n.kind
+            then set (spec.definition_places_of_kind self.old kind) n.number place
+            else spec.definition_places_of_kind self.old kind) }
     {
         match n.kind {
             Kind::Unit => self.units.restore(n.number, place),
@@ -90,8 +92,8 @@ impl KeyPlaces {
 
     /// Moves all places for the removal of the item at `gap`.
     pub(crate) fn close_gap(&mut self, gap: usize)
-        ensures { (kind : key_kind.Kind) → spec.kind_places self.new kind
-            ≡ map (option_map (without_gap gap)) (spec.kind_places self.old kind) }
+        ensures { (kind : key_kind.Kind) → spec.definition_places_of_kind self.new kind
+            ≡ map (option_map (without_gap gap)) (spec.definition_places_of_kind self.old kind) }
     {
         self.units.close_gap(gap);
         self.prefixes.close_gap(gap);
@@ -101,8 +103,8 @@ impl KeyPlaces {
 
     /// Replaces slots by places.
     pub(crate) fn fill_gaps(&mut self, gaps: &Gaps)
-        ensures { (kind : key_kind.Kind) → spec.kind_places self.new kind
-            ≡ map (option_map (place_without gaps.now)) (spec.kind_places self.old kind) }
+        ensures { (kind : key_kind.Kind) → spec.definition_places_of_kind self.new kind
+            ≡ map (option_map (place_without_gaps gaps.now)) (spec.definition_places_of_kind self.old kind) }
     {
         self.units.fill_gaps(gaps);
         self.prefixes.fill_gaps(gaps);
@@ -112,7 +114,7 @@ impl KeyPlaces {
 
     // Returns the places of the keys of a kind.
     fn of_kind(&self, kind: Kind) -> &KindPlaces
-        ensures { result.now ≡ spec.kind_places self.now kind }
+        ensures { result.now ≡ spec.definition_places_of_kind self.now kind }
     {
         match kind {
             Kind::Unit => &self.units,

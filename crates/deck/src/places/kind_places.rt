@@ -1,7 +1,7 @@
 //! The places of the keys of one kind.
 
 ghost use Rattle.std.specs.Prelude.{◌≡◌, ◌<◌, [], None, Some, length, map, option_map, set, OnOk};
-ghost use Rattle.gap_list.specs.Gaps.{place_without, without_gap};
+ghost use Rattle.gap_list.specs.Gaps.{place_without_gaps, without_gap};
 ghost use Rattle.deck.specs.KindPlaces as spec;
 
 use gap_list::Gaps;
@@ -17,13 +17,13 @@ pub(crate) struct KindPlaces {
 
 impl Model for KindPlaces {
     ghost use Rattle.std.specs.Prelude.{◌≡◌, ℕ, List, Option};
-    ghost use Rattle.deck.specs.KindPlaces.{place_count};
+    ghost use Rattle.deck.specs.KindPlaces.{definition_place_count};
 
     ghost Value = { List (Option ℕ) };
 
     ghost view = { λ p. p.places.items };
 
-    ghost invariant = { λ p. p.count ≡ place_count p.places.items };
+    ghost invariant = { λ p. p.count ≡ definition_place_count p.places.items };
 }
 
 impl KindPlaces {
@@ -39,7 +39,7 @@ impl KindPlaces {
 
     /// Returns the place of the key with this number, if it has one.
     pub(crate) fn get(&self, number: usize) -> Option<usize>
-        ensures { result ≡ spec.place_in self.now number }
+        ensures { result ≡ spec.definition_place_in self.now number }
     {
         match self.places.get(number) {
             Some(place) => *place,
@@ -56,14 +56,14 @@ impl KindPlaces {
 
     /// Returns the number of keys that have a place.
     pub(crate) fn count(&self) -> usize
-        ensures { result ≡ spec.place_count self.now }
+        ensures { result ≡ spec.definition_place_count self.now }
     {
         self.count
     }
 
     /// Makes room for the place of the key with this number. All places stay.
     pub(crate) fn make_room(&mut self, number: usize) -> Result<(), AllocError>
-        ensures same { spec.HasSamePlaces self.old self.new }
+        ensures same { spec.HasSameDefinitionPlaces self.old self.new }
         ensures ok { OnOk result (number < length self.new) }
     {
         while self.places.len() <= number {
@@ -106,7 +106,7 @@ impl KindPlaces {
 
     /// Replaces slots by places.
     pub(crate) fn fill_gaps(&mut self, gaps: &Gaps)
-        ensures { self.new ≡ map (option_map (place_without gaps.now)) self.old }
+        ensures { self.new ≡ map (option_map (place_without_gaps gaps.now)) self.old }
     {
         for number in 0..self.len() {
             let place = place_of(gaps, self.get(number));
@@ -141,7 +141,7 @@ fn place_past_gap(gap: usize, place: Option<usize>) -> Option<usize>
 
 /// Returns the place of a slot, if there is one.
 pub(crate) fn place_of(gaps: &Gaps, slot: Option<usize>) -> Option<usize>
-    ensures { result ≡ option_map (place_without gaps.now) slot }
+    ensures { result ≡ option_map (place_without_gaps gaps.now) slot }
 {
     match slot {
         Some(slot) => Some(gaps.place_of(slot)),

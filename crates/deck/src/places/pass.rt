@@ -1,10 +1,11 @@
 //! The pass over the lines of a deck that finds the last places.
 
 ghost use Rattle.std.specs.Prelude.{◌≡◌, ◌++◌, [], IfOk, length, false};
-ghost use Rattle.deck_lines.specs.Limits.{pass_limit};
-ghost use Rattle.deck_lines.specs.Stores.{definition_at};
-ghost use Rattle.deck.specs.LastPlaces.{AreLast, HasPlaceRoom};
-ghost use Rattle.deck.specs.Tables.{Definitions, active_definitions, definition_by, definitions_among};
+ghost use Rattle.deck_lines.specs.Limits.{pass_store_limit};
+ghost use Rattle.deck_lines.specs.Stores.{store_definition_at};
+ghost use Rattle.deck.specs.LastPlaces.{AreLastDefinitionPlaces, HasDefinitionPlaceRoom};
+ghost use Rattle.deck.specs.Tables.{DeckDefinitions, active_definitions, active_definitions_among};
+ghost use Rattle.deck.specs.Tables.{definition_of_active_line};
 
 use super::last_places::LastPlaces;
 use crate::force::{InForce, edited_flags, flags_in_force};
@@ -20,9 +21,9 @@ impl LastPlaces {
         settings: &Settings,
         store: &LineStore,
     ) -> Result<LastPlaces, AllocError>
-        ensures last { IfOk result (λ last. AreLast store.now.names (active_definitions settings.now store.now.lines)
-            last) }
-        ensures within { pass_limit store.now.lines ≡ false }
+        ensures last { IfOk result
+            (λ last. AreLastDefinitionPlaces store.now.names (active_definitions settings.now store.now.lines) last) }
+        ensures within { pass_store_limit store.now.lines ≡ false }
     {
         LastPlaces::under_edited(alloc, settings, &EditedLines::without_change(store))
     }
@@ -33,7 +34,8 @@ impl LastPlaces {
         settings: &InForce<'_>,
         store: &LineStore,
     ) -> Result<LastPlaces, AllocError>
-        ensures { IfOk result (λ last. AreLast store.now.names (active_definitions settings.now store.now.lines) last) }
+        ensures { IfOk result (λ last. AreLastDefinitionPlaces store.now.names
+            (active_definitions settings.now store.now.lines) last) }
     {
         let edited = EditedLines::without_change(store);
         let flags = flags_in_force(alloc, &edited, settings)?;
@@ -46,8 +48,8 @@ impl LastPlaces {
         settings: &Settings,
         edited: &EditedLines<'_>,
     ) -> Result<LastPlaces, AllocError>
-        ensures { IfOk result (λ last. AreLast edited.now.names (active_definitions settings.now edited.now.new_lines)
-            last) }
+        ensures { IfOk result (λ last. AreLastDefinitionPlaces edited.now.names
+            (active_definitions settings.now edited.now.new_lines) last) }
     {
         let flags = edited_flags(alloc, edited, settings)?;
         LastPlaces::of_edited(alloc, flags.as_slice(), edited)
@@ -60,7 +62,8 @@ impl LastPlaces {
         edited: &EditedLines<'_>,
     ) -> Result<LastPlaces, AllocError>
         requires { length flags.now ≡ length edited.now.new_lines }
-        ensures { IfOk result (λ last. AreLast edited.now.names (definitions_among flags.now edited.now.new_lines) last) }
+        ensures { IfOk result (λ last. AreLastDefinitionPlaces edited.now.names
+            (active_definitions_among flags.now edited.now.new_lines) last) }
     {
         let mut last = with_room(alloc, edited)?;
         last.note_lines(edited, flags);
@@ -71,9 +74,10 @@ impl LastPlaces {
     /// may have a place before. Allocates no memory.
     pub(crate) fn note_lines(&mut self, edited: &EditedLines<'_>, flags: &[bool])
         requires flags { length flags.now ≡ length edited.now.new_lines }
-        requires room { HasPlaceRoom edited.now.names self.old }
-        requires none { AreLast edited.now.names [] self.old }
-        ensures { AreLast edited.now.names (definitions_among flags.now edited.now.new_lines) self.new }
+        requires room { HasDefinitionPlaceRoom edited.now.names self.old }
+        requires none { AreLastDefinitionPlaces edited.now.names [] self.old }
+        ensures { AreLastDefinitionPlaces edited.now.names (active_definitions_among flags.now edited.now.new_lines)
+            self.new }
     {
         for place in 0..flags.len() {
             note_line(edited, self, flags[place], place);
@@ -83,8 +87,8 @@ impl LastPlaces {
 
 /// Returns last places without a place, with room for all keys that have a number.
 pub(super) fn with_room(alloc: Global, edited: &EditedLines<'_>) -> Result<LastPlaces, AllocError>
-    ensures room { IfOk result (λ last. HasPlaceRoom edited.now.names last) }
-    ensures none { IfOk result (λ last. AreLast edited.now.names [] last) }
+    ensures room { IfOk result (λ last. HasDefinitionPlaceRoom edited.now.names last) }
+    ensures none { IfOk result (λ last. AreLastDefinitionPlaces edited.now.names [] last) }
 {
     let mut last = LastPlaces::new(alloc);
     last.make_room(Kind::Unit, edited.name_count(Kind::Unit))?;
@@ -96,11 +100,11 @@ pub(super) fn with_room(alloc: Global, edited: &EditedLines<'_>) -> Result<LastP
 
 /// Sets the place of the key of a line to `place`, if the line is active.
 pub(super) fn note_line(edited: &EditedLines<'_>, last: &mut LastPlaces, active: bool, place: usize)
-    requires { HasPlaceRoom edited.now.names last.old }
-    ensures room { HasPlaceRoom edited.now.names last.new }
-    ensures last { (ds : Definitions) → AreLast edited.now.names ds last.old
-        → AreLast edited.now.names (definition_by place active (definition_at edited.now.new_lines place) ++ ds)
-        last.new }
+    requires { HasDefinitionPlaceRoom edited.now.names last.old }
+    ensures room { HasDefinitionPlaceRoom edited.now.names last.new }
+    ensures last { (ds : DeckDefinitions) → AreLastDefinitionPlaces edited.now.names ds last.old
+        → AreLastDefinitionPlaces edited.now.names
+        (definition_of_active_line place active (store_definition_at edited.now.new_lines place) ++ ds) last.new }
 {
     if !active {
         return;

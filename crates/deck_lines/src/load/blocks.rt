@@ -1,11 +1,11 @@
 //! The blocks of a file.
 
 ghost use Rattle.std.specs.Prelude.{◌≡◌, ◌++◌, [], None, map, reverse, OnOk, OnErr};
-ghost use Rattle.deck_lines.specs.Blocks.{end_text};
+ghost use Rattle.deck_lines.specs.Blocks.{block_end_text};
 ghost use Rattle.deck_lines.specs.Excerpts as spec;
-ghost use Rattle.deck_lines.specs.Loads.{Extends, IsExcerptPut};
-ghost use Rattle.deck_lines.specs.Marks.{plain_line};
-ghost use Rattle.deck_lines.specs.Readings.{entry_in};
+ghost use Rattle.deck_lines.specs.Loads.{ExtendsStore, IsExcerptPut};
+ghost use Rattle.deck_lines.specs.Marks.{plain_store_line};
+ghost use Rattle.deck_lines.specs.Readings.{entry_in_store_line};
 
 use crate::draft::{Draft, LoadFault};
 use crate::line::{Block, Ending, Role, same_ending};
@@ -23,7 +23,7 @@ pub(crate) fn push_role_line(
     line: Line,
     role: Role,
 ) -> Result<(), LoadFault>
-    requires { entry_in (plain_line line.number line.text) ≡ None }
+    requires { entry_in_store_line (plain_store_line line.number line.text) ≡ None }
     ensures put { IsExcerptPut draft.old (spec.role_excerpt name.now (reverse blocks.old.items) line role) result
         draft.new }
     ensures blocks { OnOk result (reverse blocks.new.items
@@ -49,7 +49,7 @@ pub(crate) fn push_role_line(
 
 // Reports whether an end line with this ending closes the innermost block, which is the last.
 fn closes_innermost(blocks: &[Block], ending: Ending) -> bool
-    ensures { result ≡ spec.closes_innermost ending (reverse blocks.now) }
+    ensures { result ≡ spec.closes_innermost_block ending (reverse blocks.now) }
 {
     match blocks.last() {
         Some(block) => same_ending(ending, block.ending),
@@ -65,8 +65,8 @@ pub(crate) fn push_file_end(
     name: &[u8],
     blocks: Vec<Block>,
 ) -> Result<(), LoadFault>
-    ensures put { IsExcerptPut draft.old (spec.file_end name.now (reverse blocks.items)) result draft.new }
-    ensures extends { Extends draft.old.store draft.new.store }
+    ensures put { IsExcerptPut draft.old (spec.excerpt_of_file_end name.now (reverse blocks.items)) result draft.new }
+    ensures extends { ExtendsStore draft.old.store draft.new.store }
 {
     push_unclosed_notices(alloc, draft, name, blocks.as_slice())?;
     push_missing_ends(alloc, draft, blocks)
@@ -94,9 +94,9 @@ fn push_missing_ends(
     draft: &mut Draft,
     mut blocks: Vec<Block>,
 ) -> Result<(), LoadFault>
-    ensures put { IsExcerptPut draft.old (record { lines = map spec.missing_end (reverse blocks.items); notices = [] })
-        result draft.new }
-    ensures extends { Extends draft.old.store draft.new.store }
+    ensures put { IsExcerptPut draft.old
+        (record { lines = map spec.missing_block_end (reverse blocks.items); notices = [] }) result draft.new }
+    ensures extends { ExtendsStore draft.old.store draft.new.store }
 {
     let _ = draft.store.lines();
     while let Some(block) = blocks.pop() {
@@ -109,7 +109,7 @@ fn push_missing_ends(
 
 // Returns the text of the end line for an ending.
 fn end_line_text(ending: Ending) -> &'static [u8]
-    ensures { result.now ≡ end_text ending }
+    ensures { result.now ≡ block_end_text ending }
 {
     match ending {
         Ending::ByLocale => b"!endlocale".as_slice(),

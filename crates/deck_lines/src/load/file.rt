@@ -2,16 +2,16 @@
 
 ghost use Rattle.std.specs.Prelude.{◌≡◌, ◌++◌, [], ◌≤◌, None, length, reverse, OnOk, OnErr};
 ghost use Rattle.units_io.specs.FileMap.{longest_file};
-ghost use Rattle.def_lines.specs.Kinds.{kind_of};
-ghost use Rattle.deck_lines.specs.Blocks.{role_of};
+ghost use Rattle.def_lines.specs.Kinds.{kind_of_line};
+ghost use Rattle.deck_lines.specs.Blocks.{block_role_of_kind};
 ghost use Rattle.deck_lines.specs.ClosedBlocks.{AreBlocksClosed};
 ghost use Rattle.deck_lines.specs.Excerpts.{blocks_behind_line, line_with_notice};
 ghost use Rattle.deck_lines.specs.Includes.{included_name};
 ghost use Rattle.deck_lines.specs.LineLoads.{excerpt_in, faults_after_load, load_above, load_below, load_of_file};
 ghost use Rattle.deck_lines.specs.LineLoads.{load_of_line};
-ghost use Rattle.deck_lines.specs.Loads.{Extends, IsExcerptPut, Leads, endings};
-ghost use Rattle.deck_lines.specs.Marks.{plain_line};
-ghost use Rattle.deck_lines.specs.Readings.{entry_in, reading_of};
+ghost use Rattle.deck_lines.specs.Loads.{ExtendsStore, IsExcerptPut, LeadsBetweenBlocks, block_endings};
+ghost use Rattle.deck_lines.specs.Marks.{plain_store_line};
+ghost use Rattle.deck_lines.specs.Readings.{entry_in_store_line, store_line_reading_of};
 ghost use Rattle.deck_lines.specs.Transcripts.{IsLoad, IsTranscript};
 ghost use Rattle.deck_lines.specs.declared.draft.LoadFault.TheVariants.{OutOfMemory};
 ghost use Rattle.deck_lines.specs.declared.line.Role.TheVariants.{Inside};
@@ -45,7 +45,7 @@ pub fn load_text<F: Files>(
     requires { length bytes.now ≤ longest_file }
     ensures loads { IsLoad OutOfMemory (IsTranscript (F.files files.old) F.is_fetch files.old files.new)
         (load_of_file name.now bytes.now (excerpt_in draft.old)) (λ _. excerpt_in draft.new) result }
-    ensures extends { Extends draft.old.store draft.new.store }
+    ensures extends { ExtendsStore draft.old.store draft.new.store }
     ensures closed { OnOk result (AreBlocksClosed draft.old.store.lines → AreBlocksClosed draft.new.store.lines) }
     ensures kept { F.files files.new ≡ F.files files.old }
     ensures stores { F.store_faults files.new ≡ F.store_faults files.old }
@@ -67,7 +67,7 @@ fn load_file<F: Files>(
     requires { length bytes.now ≤ longest_file }
     ensures loads { IsLoad OutOfMemory (IsTranscript (F.files files.old) F.is_fetch files.old files.new)
         (load_above depth name.now bytes.now (excerpt_in draft.old)) (λ _. excerpt_in draft.new) result }
-    ensures leads { Leads [] [] draft.old.store draft.new.store result }
+    ensures leads { LeadsBetweenBlocks [] [] draft.old.store draft.new.store result }
     ensures kept { F.files files.new ≡ F.files files.old }
     ensures stores { F.store_faults files.new ≡ F.store_faults files.old }
     ensures counted { F.faults files.new ≡ faults_after_load (F.faults files.old) result }
@@ -94,12 +94,12 @@ fn load_line<F: Files>(
 ) -> Result<(), LoadFault>
     ensures loads { IsLoad OutOfMemory (IsTranscript (F.files files.old) F.is_fetch files.old files.new)
         (load_of_line (λ word. load_below depth name.now (included_name name.now word)) name.now
-        (reverse blocks.old.items) line (reading_of line.text) (excerpt_in draft.old))
+        (reverse blocks.old.items) line (store_line_reading_of line.text) (excerpt_in draft.old))
         (λ _. excerpt_in draft.new) result }
     ensures blocks { OnOk result (reverse blocks.new.items
-        ≡ blocks_behind_line (reverse blocks.old.items) line (reading_of line.text)) }
-    ensures leads { Leads (endings (reverse blocks.old.items))
-        (endings (blocks_behind_line (reverse blocks.old.items) line (reading_of line.text)))
+        ≡ blocks_behind_line (reverse blocks.old.items) line (store_line_reading_of line.text)) }
+    ensures leads { LeadsBetweenBlocks (block_endings (reverse blocks.old.items))
+        (block_endings (blocks_behind_line (reverse blocks.old.items) line (store_line_reading_of line.text)))
         draft.old.store draft.new.store result }
     ensures kept { F.files files.new ≡ F.files files.old }
     ensures stores { F.store_faults files.new ≡ F.store_faults files.old }
@@ -128,11 +128,11 @@ fn load_include<F: Files>(
     line: Line,
     file: Text,
 ) -> Result<(), LoadFault>
-    requires role { role_of (kind_of line.text) ≡ Inside }
-    requires entry { entry_in (plain_line line.number line.text) ≡ None }
+    requires role { block_role_of_kind (kind_of_line line.text) ≡ Inside }
+    requires entry { entry_in_store_line (plain_store_line line.number line.text) ≡ None }
     ensures loads { IsLoad OutOfMemory (IsTranscript (F.files files.old) F.is_fetch files.old files.new)
         (load_below depth name.now file line (excerpt_in draft.old)) (λ _. excerpt_in draft.new) result }
-    ensures leads { Leads [] [] draft.old.store draft.new.store result }
+    ensures leads { LeadsBetweenBlocks [] [] draft.old.store draft.new.store result }
     ensures kept { F.files files.new ≡ F.files files.old }
     ensures stores { F.store_faults files.new ≡ F.store_faults files.old }
     ensures counted { F.faults files.new ≡ faults_after_load (F.faults files.old) result }

@@ -6,14 +6,14 @@ ghost use Rattle.std.specs.Option.{option_copied};
 ghost use Rattle.def_entry.specs.Entries as entries;
 ghost use Rattle.def_entry.specs.LineViews.{seen_entry};
 ghost use Rattle.def_entry.specs.declared.key.Key as key_spec;
-ghost use Rattle.deck_lines.specs.StoredDefinitions.{AreDefined, HasRoomFor, IsDefined, keyed_definition};
-ghost use Rattle.deck_lines.specs.StoredDefinitions.{seen_definition};
-ghost use Rattle.deck_lines.specs.StoredDefinitions.{all_with_numbers, with_number};
-ghost use Rattle.deck_lines.specs.Names.{Names, key_numbered, no_names};
-ghost use Rattle.deck_lines.specs.NumberedKeys.{names_in};
-ghost use Rattle.deck_lines.specs.Readings.{entry_in};
-ghost use Rattle.deck_lines.specs.Renumberings.{AreNumbers, names_after};
-ghost use Rattle.deck_lines.specs.Stores.{definition_at, with_definition};
+ghost use Rattle.deck_lines.specs.StoredDefinitions.{AreStoreDefinitionsOf, HasRoomForStoreDefinition, IsStoreDefined};
+ghost use Rattle.deck_lines.specs.StoredDefinitions.{keyed_store_definition, seen_store_definition};
+ghost use Rattle.deck_lines.specs.StoredDefinitions.{key_numbered_definition, key_numbered_definitions};
+ghost use Rattle.deck_lines.specs.Names.{KeyNumberNames, key_numbered, no_key_number_names};
+ghost use Rattle.deck_lines.specs.NumberedKeys.{key_number_names_in};
+ghost use Rattle.deck_lines.specs.Readings.{entry_in_store_line};
+ghost use Rattle.deck_lines.specs.Renumberings.{AreKeyNumbersOfLines, key_number_names_after};
+ghost use Rattle.deck_lines.specs.Stores.{key_numbers_by_definition, store_definition_at};
 ghost use Rattle.deck_lines.specs.declared.line.DeckLine.{DeckLine};
 
 use super::exchange::exchange;
@@ -51,7 +51,7 @@ impl Definitions {
     /// Returns definitions of no lines, without numbered keys. `seed` is the hash seed of the tables of names.
     pub(crate) fn new(alloc: Global, seed: HashSeed) -> Definitions
         ensures lines { result.of_lines.listed ≡ [] }
-        ensures names { names_in result.keys ≡ no_names }
+        ensures names { key_number_names_in result.keys ≡ no_key_number_names }
     {
         Definitions {
             of_lines: GapList::new(alloc),
@@ -61,9 +61,9 @@ impl Definitions {
 
     /// Returns the definition of the line at `place`, or `None` if it defines nothing or there is no such line.
     pub(crate) fn at(&self, place: usize) -> Option<&Definition>
-        ensures { (lines : List DeckLine) → AreDefined self.now (map entry_in lines)
-            → option_map (seen_definition (names_in self.now.keys)) (option_copied result)
-            ≡ option_map keyed_definition (definition_at lines place) }
+        ensures { (lines : List DeckLine) → AreStoreDefinitionsOf self.now (map entry_in_store_line lines)
+            → option_map (seen_store_definition (key_number_names_in self.now.keys)) (option_copied result)
+            ≡ option_map keyed_store_definition (store_definition_at lines place) }
     {
         match self.of_lines.get(place) {
             Some(Some(definition)) => Some(definition),
@@ -75,8 +75,8 @@ impl Definitions {
     /// Makes room for the definition of one more line.
     pub(crate) fn reserve_for(&mut self, definition: &Option<(Key, What)>) -> Result<(), AllocError>
         ensures lines { self.new.of_lines.listed ≡ self.old.of_lines.listed }
-        ensures names { names_in self.new.keys ≡ names_in self.old.keys }
-        ensures ok { OnOk result (HasRoomFor self.new definition.now) }
+        ensures names { key_number_names_in self.new.keys ≡ key_number_names_in self.old.keys }
+        ensures ok { OnOk result (HasRoomForStoreDefinition self.new definition.now) }
     {
         self.of_lines.reserve(1)?;
         match definition {
@@ -88,13 +88,14 @@ impl Definitions {
     /// Appends the definition of one more line, and returns the number of its key. A new key gets the next number of
     /// its kind. Allocates no memory.
     pub(crate) fn put(&mut self, definition: Option<(Key, What)>) -> Option<KeyNumber>
-        requires room { HasRoomFor self.old definition }
-        ensures lines { (said : List (Option (key_spec.Key × entries.Entry))) (line : List ℕ) → AreDefined self.old said
-            → AreDefined self.new (said ++ option_map (seen_entry line) definition ∷ []) }
+        requires room { HasRoomForStoreDefinition self.old definition }
+        ensures lines { (said : List (Option (key_spec.Key × entries.Entry))) (line : List ℕ)
+            → AreStoreDefinitionsOf self.old said
+            → AreStoreDefinitionsOf self.new (said ++ option_map (seen_entry line) definition ∷ []) }
         ensures names { (line : List ℕ)
-            → names_in self.new.keys
-            ≡ with_definition (names_in self.old.keys) (option_map (seen_entry line) definition) }
-        ensures number { (line : List ℕ) → option_map (key_numbered (names_in self.new.keys)) result
+            → key_number_names_in self.new.keys
+            ≡ key_numbers_by_definition (key_number_names_in self.old.keys) (option_map (seen_entry line) definition) }
+        ensures number { (line : List ℕ) → option_map (key_numbered (key_number_names_in self.new.keys)) result
             ≡ option_map (λ d. Some d.0) (option_map (seen_entry line) definition) }
     {
         match definition {
@@ -112,9 +113,9 @@ impl Definitions {
 
     /// Keeps only the definitions of the first `len` lines.
     pub(crate) fn truncate(&mut self, len: usize)
-        ensures lines { (said : List (Option (key_spec.Key × entries.Entry))) → AreDefined self.old said
-            → AreDefined self.new (take len said) }
-        ensures names { names_in self.new.keys ≡ names_in self.old.keys }
+        ensures lines { (said : List (Option (key_spec.Key × entries.Entry))) → AreStoreDefinitionsOf self.old said
+            → AreStoreDefinitionsOf self.new (take len said) }
+        ensures names { key_number_names_in self.new.keys ≡ key_number_names_in self.old.keys }
     {
         self.of_lines.truncate(len);
     }
@@ -122,9 +123,9 @@ impl Definitions {
     /// Removes the definition of the line at `place`.
     pub(crate) fn remove(&mut self, place: usize)
         requires { place < length self.old.of_lines.listed }
-        ensures lines { (said : List (Option (key_spec.Key × entries.Entry))) → AreDefined self.old said
-            → AreDefined self.new (take place said ++ drop (place + 1) said) }
-        ensures names { names_in self.new.keys ≡ names_in self.old.keys }
+        ensures lines { (said : List (Option (key_spec.Key × entries.Entry))) → AreStoreDefinitionsOf self.old said
+            → AreStoreDefinitionsOf self.new (take place said ++ drop (place + 1) said) }
+        ensures names { key_number_names_in self.new.keys ≡ key_number_names_in self.old.keys }
     {
         self.of_lines.remove(place);
     }
@@ -138,7 +139,7 @@ impl Definitions {
         cut: usize,
     ) -> Result<Vec<Option<Definition>>, AllocError>
         ensures lines { self.new.of_lines.listed ≡ self.old.of_lines.listed }
-        ensures names { names_in self.new.keys ≡ names_in self.old.keys }
+        ensures names { key_number_names_in self.new.keys ≡ key_number_names_in self.old.keys }
         ensures room { OnOk result (put ≤ self.new.of_lines.spare) }
         ensures gone { IfOk result (λ gone. (gone.items ≡ []) × (cut ≤ vec_capacity gone)) }
     {
@@ -158,10 +159,10 @@ impl Definitions {
         requires room { vec_len put ≤ self.old.of_lines.spare }
         requires hole { cut ≤ vec_capacity gone }
         requires empty { gone.items ≡ [] }
-        ensures lines { (said by : List (Option (key_spec.Key × entries.Entry))) → AreDefined self.old said
-            → IsDefined (names_in self.old.keys) put.items by
-            → AreDefined self.new (take at said ++ (by ++ drop (at + cut) said)) }
-        ensures names { names_in self.new.keys ≡ names_in self.old.keys }
+        ensures lines { (said by : List (Option (key_spec.Key × entries.Entry))) → AreStoreDefinitionsOf self.old said
+            → IsStoreDefined (key_number_names_in self.old.keys) put.items by
+            → AreStoreDefinitionsOf self.new (take at said ++ (by ++ drop (at + cut) said)) }
+        ensures names { key_number_names_in self.new.keys ≡ key_number_names_in self.old.keys }
     {
         let mut items = self.take_items(*gone.allocator());
         exchange(&mut items, at, cut, &mut put, &mut gone);
@@ -171,9 +172,10 @@ impl Definitions {
     /// Gives new numbers to the keys that lines define, and forgets all other keys. Allocates no memory.
     pub(crate) fn renumber(&mut self, numbers: Renumbering)
         requires { length numbers.of_lines.items ≡ length self.old.of_lines.listed }
-        ensures lines { (said : List (Option (key_spec.Key × entries.Entry))) → AreDefined self.old said
-            → AreNumbers (names_after numbers) numbers.of_lines.items said → AreDefined self.new said }
-        ensures names { names_in self.new.keys ≡ names_after numbers }
+        ensures lines { (said : List (Option (key_spec.Key × entries.Entry))) → AreStoreDefinitionsOf self.old said
+            → AreKeyNumbersOfLines (key_number_names_after numbers) numbers.of_lines.items said
+            → AreStoreDefinitionsOf self.new said }
+        ensures names { key_number_names_in self.new.keys ≡ key_number_names_after numbers }
     {
         let Renumbering { keys, of_lines } = numbers;
         let mut items = self.take_items(*of_lines.allocator());
@@ -186,7 +188,7 @@ impl Definitions {
     fn take_items(&mut self, alloc: Global) -> Vec<Option<Definition>>
         ensures items { result.items ≡ self.old.of_lines.listed }
         ensures room { self.old.of_lines.spare + vec_len result ≤ vec_capacity result }
-        ensures names { names_in self.new.keys ≡ names_in self.old.keys }
+        ensures names { key_number_names_in self.new.keys ≡ key_number_names_in self.old.keys }
     {
         mem::replace(&mut self.of_lines, GapList::new(alloc)).into_vec()
     }
@@ -195,7 +197,7 @@ impl Definitions {
 // Gives the key of each definition the number at the same place.
 fn set_numbers(definitions: &mut [Option<Definition>], numbers: &[Option<KeyNumber>])
     requires { length numbers.now ≡ length definitions.old }
-    ensures { definitions.new ≡ all_with_numbers numbers.now definitions.old }
+    ensures { definitions.new ≡ key_numbered_definitions numbers.now definitions.old }
 {
     for place in 0..definitions.len() {
         set_number(&mut definitions[place], numbers[place]);
@@ -204,7 +206,7 @@ fn set_numbers(definitions: &mut [Option<Definition>], numbers: &[Option<KeyNumb
 
 // Gives the key of a definition a number, if both are present.
 fn set_number(definition: &mut Option<Definition>, number: Option<KeyNumber>)
-    ensures { definition.new ≡ with_number number definition.old }
+    ensures { definition.new ≡ key_numbered_definition number definition.old }
 {
     if let Some(definition) = definition {
         if let Some(number) = number {
@@ -215,9 +217,10 @@ fn set_number(definition: &mut Option<Definition>, number: Option<KeyNumber>)
 
 /// Returns the definition at `place`, or `None` if the line there defines nothing or there is no such line.
 pub(crate) fn definition_in(definitions: &[Option<Definition>], place: usize) -> Option<&Definition>
-    ensures { (names : Names) (lines : List DeckLine) → IsDefined names definitions.now (map entry_in lines)
-        → option_map (seen_definition names) (option_copied result)
-        ≡ option_map keyed_definition (definition_at lines place) }
+    ensures { (names : KeyNumberNames) (lines : List DeckLine)
+        → IsStoreDefined names definitions.now (map entry_in_store_line lines)
+        → option_map (seen_store_definition names) (option_copied result)
+        ≡ option_map keyed_store_definition (store_definition_at lines place) }
 {
     match definitions.get(place) {
         Some(Some(definition)) => Some(definition),

@@ -5,13 +5,13 @@ ghost use Rattle.std.specs.Bool.{OnTrue};
 ghost use Rattle.std.specs.Option.{option_copied};
 ghost use Rattle.def_entry.specs.Views.{entry_view};
 ghost use Rattle.deck_lines.specs.StoreEdits.{store_after, store_before, store_unedited};
-ghost use Rattle.deck_lines.specs.StoredDefinitions.{IsDefined, keyed_definition, seen_definition};
-ghost use Rattle.deck_lines.specs.Limits.{pass_limit};
-ghost use Rattle.deck_lines.specs.Names.{key_numbered, names_of_kind};
-ghost use Rattle.deck_lines.specs.KeyNumbering.{IsNumbering};
-ghost use Rattle.deck_lines.specs.Origins.{exchanged_lines};
-ghost use Rattle.deck_lines.specs.Readings.{entry_in};
-ghost use Rattle.deck_lines.specs.Stores.{definition_at};
+ghost use Rattle.deck_lines.specs.StoredDefinitions.{IsStoreDefined, keyed_store_definition, seen_store_definition};
+ghost use Rattle.deck_lines.specs.Limits.{pass_store_limit};
+ghost use Rattle.deck_lines.specs.Names.{key_number_names_of_kind, key_numbered};
+ghost use Rattle.deck_lines.specs.KeyNumbering.{IsKeyNumbering};
+ghost use Rattle.deck_lines.specs.Origins.{exchanged_store_lines};
+ghost use Rattle.deck_lines.specs.Readings.{entry_in_store_line};
+ghost use Rattle.deck_lines.specs.Stores.{store_definition_at};
 
 use super::definitions::{Definition, PutDefinitions, definition_in};
 use super::line_store::LineStore;
@@ -32,25 +32,25 @@ pub struct EditedLines<'a> {
 }
 
 impl<'a> Model for EditedLines<'a> {
-    ghost use Rattle.deck_lines.specs.StoreEdits.{ArePut, StoreEdit};
-    ghost use Rattle.deck_lines.specs.Origins.{exchanged_lines};
+    ghost use Rattle.deck_lines.specs.StoreEdits.{AreStoreLinesPut, StoreEdit};
+    ghost use Rattle.deck_lines.specs.Origins.{exchanged_store_lines};
 
     ghost Value = { StoreEdit };
 
     ghost view = { λ e. record {
       old_lines = e.store.now.lines;
-      new_lines = exchanged_lines e.at e.cut e.put.now e.store.now.lines;
+      new_lines = exchanged_store_lines e.at e.cut e.put.now e.store.now.lines;
       names = e.store.now.names;
     } };
 
-    ghost invariant = { λ e. ArePut e.store.now e.at e.cut e.put.now e.definitions.now };
+    ghost invariant = { λ e. AreStoreLinesPut e.store.now e.at e.cut e.put.now e.definitions.now };
 }
 
 impl<'a> EditedLines<'a> {
     /// Returns a view of the store without a change.
     pub fn without_change(store: &'a LineStore) -> EditedLines<'a>
         ensures is { result ≡ store_unedited store.now }
-        ensures within { pass_limit store.now.lines ≡ false }
+        ensures within { pass_store_limit store.now.lines ≡ false }
     {
         EditedLines {
             store,
@@ -70,10 +70,11 @@ impl<'a> EditedLines<'a> {
         definitions: &'a PutDefinitions,
     ) -> EditedLines<'a>
         requires places { at + cut ≤ length store.now.lines }
-        requires defined { IsDefined store.now.names definitions.now.of_lines.items (map entry_in put.now) }
+        requires defined { IsStoreDefined store.now.names definitions.now.of_lines.items
+            (map entry_in_store_line put.now) }
         ensures { result ≡ record {
           old_lines = store.now.lines;
-          new_lines = exchanged_lines at cut put.now store.now.lines;
+          new_lines = exchanged_store_lines at cut put.now store.now.lines;
           names = store.now.names;
         } }
     {
@@ -123,7 +124,7 @@ impl<'a> EditedLines<'a> {
 
     /// Returns the entry that the line at `place` defines, or `None` if it defines nothing or there is no such line.
     pub fn entry(&self, place: usize) -> Option<Entry<'_>>
-        ensures { option_map entry_view result ≡ option_map (λ d. d.1) (definition_at self.now.new_lines place) }
+        ensures { option_map entry_view result ≡ option_map (λ d. d.1) (store_definition_at self.now.new_lines place) }
     {
         match self.definition(place) {
             Some(definition) => Some(Entry {
@@ -138,8 +139,8 @@ impl<'a> EditedLines<'a> {
     /// such line.
     pub fn key_number(&self, place: usize) -> Option<KeyNumber>
         ensures number { option_map (key_numbered self.now.names) result
-            ≡ option_map (λ d. Some d.0) (definition_at self.now.new_lines place) }
-        ensures numbering { IsNumbering (store_after self.now) }
+            ≡ option_map (λ d. Some d.0) (store_definition_at self.now.new_lines place) }
+        ensures numbering { IsKeyNumbering (store_after self.now) }
     {
         match self.definition(place) {
             Some(definition) => Some(definition.key),
@@ -149,25 +150,25 @@ impl<'a> EditedLines<'a> {
 
     /// Returns the name of the key with this number, or `None` if there is no such key.
     pub fn name(&self, n: KeyNumber) -> Option<&[u8]>
-        ensures { option_copied result ≡ slice_get (names_of_kind self.now.names n.kind) n.number }
+        ensures { option_copied result ≡ slice_get (key_number_names_of_kind self.now.names n.kind) n.number }
     {
         self.store.name(n)
     }
 
     /// Returns the number of keys of a kind that have a number.
     pub fn name_count(&self, kind: Kind) -> usize
-        ensures count { result ≡ length (names_of_kind self.now.names kind) }
-        ensures before { IsNumbering (store_before self.now) }
-        ensures after { IsNumbering (store_after self.now) }
+        ensures count { result ≡ length (key_number_names_of_kind self.now.names kind) }
+        ensures before { IsKeyNumbering (store_before self.now) }
+        ensures after { IsKeyNumbering (store_after self.now) }
     {
         self.store.name_count(kind)
     }
 
     // Returns the definition of the line at `place`, or `None` if it defines nothing or there is no such line.
     fn definition(&self, place: usize) -> Option<&Definition>
-        ensures is { option_map (seen_definition self.now.names) (option_copied result)
-            ≡ option_map keyed_definition (definition_at self.now.new_lines place) }
-        ensures numbering { IsNumbering (store_after self.now) }
+        ensures is { option_map (seen_store_definition self.now.names) (option_copied result)
+            ≡ option_map keyed_store_definition (store_definition_at self.now.new_lines place) }
+        ensures numbering { IsKeyNumbering (store_after self.now) }
     {
         match origin_of(self.store.len(), self.at, self.cut, self.put.len(), place) {
             Origin::Stored(place) => self.store.definition(place),

@@ -2,12 +2,12 @@
 
 ghost use Rattle.std.specs.Prelude.{◌≡◌, ◌≤◌, ◌+◌, ◌↔◌, ℕ, [], Some, None, IfOk, IsTrue, length, reverse};
 ghost use Rattle.std.specs.Prelude.{if◌then◌else◌};
-ghost use Rattle.def_lines.specs.Kinds.{kind_of};
-ghost use Rattle.deck_lines.specs.Blocks.{role_of};
+ghost use Rattle.def_lines.specs.Kinds.{kind_of_line};
+ghost use Rattle.deck_lines.specs.Blocks.{block_role_of_kind};
 ghost use Rattle.deck_lines.specs.ClosedBlocks.{AreBlocksClosed, blocks_past, blocks_without};
-ghost use Rattle.deck_lines.specs.Exchangeable.{CanExchange};
-ghost use Rattle.deck_lines.specs.Limits.{most_bytes, most_lines, text_len};
-ghost use Rattle.deck_lines.specs.Origins.{exchanged_lines};
+ghost use Rattle.deck_lines.specs.Exchangeable.{CanExchangeStoredLines};
+ghost use Rattle.deck_lines.specs.Limits.{most_store_bytes, most_store_lines, stored_text_len};
+ghost use Rattle.deck_lines.specs.Origins.{exchanged_store_lines};
 
 use super::line_list::{MOST_BYTES, MOST_LINES};
 use super::line_store::LineStore;
@@ -26,7 +26,7 @@ pub fn can_exchange(
     cut: usize,
     put: &[DeckLine],
 ) -> Result<bool, AllocError>
-    ensures { IfOk result (λ can. IsTrue can ↔ CanExchange at cut put.now store.now.lines) }
+    ensures { IfOk result (λ can. IsTrue can ↔ CanExchangeStoredLines at cut put.now store.now.lines) }
 {
     let count = store.lines().len();
     if count < at {
@@ -51,9 +51,9 @@ fn are_closed_and_small(
     put: &[DeckLine],
 ) -> Result<bool, AllocError>
     requires places { at + cut ≤ length store.now.lines }
-    requires few { length (exchanged_lines at cut put.now store.now.lines) ≤ most_lines }
-    ensures { IfOk result (λ are. IsTrue are ↔ (AreBlocksClosed (exchanged_lines at cut put.now store.now.lines)
-        × (text_len (exchanged_lines at cut put.now store.now.lines) ≤ most_bytes))) }
+    requires few { length (exchanged_store_lines at cut put.now store.now.lines) ≤ most_store_lines }
+    ensures { IfOk result (λ are. IsTrue are ↔ (AreBlocksClosed (exchanged_store_lines at cut put.now store.now.lines)
+        × (stored_text_len (exchanged_store_lines at cut put.now store.now.lines) ≤ most_store_bytes))) }
 {
     let mut endings = Vec::new(alloc);
     let mut room = MOST_BYTES;
@@ -106,7 +106,7 @@ fn close_innermost(endings: &mut Vec<Ending>, ending: Ending) -> bool
 
 // Returns the effect of a line on the open blocks.
 fn role_of_line(text: &[u8]) -> Role
-    ensures { result ≡ role_of (kind_of text.now) }
+    ensures { result ≡ block_role_of_kind (kind_of_line text.now) }
 {
     match classify(text) {
         LineKind::Locale(_) => Role::Opens(Ending::ByLocale),

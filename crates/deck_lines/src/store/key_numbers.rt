@@ -3,8 +3,9 @@
 ghost use Rattle.std.specs.Prelude.{◌≡◌, ◌<◌, Some, false, length, slice_get, OnOk, MatchOption};
 ghost use Rattle.std.specs.Option.{option_copied};
 ghost use Rattle.def_entry.specs.Keys.{key};
-ghost use Rattle.deck_lines.specs.Names.{is_numbered, key_numbered, names_of_kind, no_names, with_key};
-ghost use Rattle.deck_lines.specs.NumberedKeys.{names_in, spare_of};
+ghost use Rattle.deck_lines.specs.Names.{is_key_numbered, key_number_names_of_kind, key_numbered, key_numbers_with_key};
+ghost use Rattle.deck_lines.specs.Names.{no_key_number_names};
+ghost use Rattle.deck_lines.specs.NumberedKeys.{key_number_names_in, spare_key_numbers_of_kind};
 
 use super::name_set::NameSet;
 use crate::key_number::KeyNumber;
@@ -24,7 +25,7 @@ pub(crate) struct KeyNumbers {
 impl KeyNumbers {
     /// Returns empty tables. `seed` is their hash seed.
     pub fn new(alloc: Global, seed: HashSeed) -> KeyNumbers
-        ensures { names_in result ≡ no_names }
+        ensures { key_number_names_in result ≡ no_key_number_names }
     {
         KeyNumbers {
             units: NameSet::new(alloc, seed),
@@ -42,8 +43,8 @@ impl KeyNumbers {
     /// Returns the number of a key, or `None` if it has no number.
     pub fn number_of(&self, kind: Kind, name: &[u8]) -> Option<KeyNumber>
         ensures { MatchOption result
-            (is_numbered (names_in self.now) (key kind name.now) ≡ false)
-            (λ n. key_numbered (names_in self.now) n ≡ Some (key kind name.now)) }
+            (is_key_numbered (key_number_names_in self.now) (key kind name.now) ≡ false)
+            (λ n. key_numbered (key_number_names_in self.now) n ≡ Some (key kind name.now)) }
     {
         match self.of_kind(kind).number_of(name) {
             Some(number) => Some(KeyNumber { kind, number }),
@@ -53,22 +54,23 @@ impl KeyNumbers {
 
     /// Returns the name of the key with this number, or `None` if there is no such key.
     pub fn name(&self, n: KeyNumber) -> Option<&[u8]>
-        ensures { option_copied result ≡ slice_get (names_of_kind (names_in self.now) n.kind) n.number }
+        ensures { option_copied result
+            ≡ slice_get (key_number_names_of_kind (key_number_names_in self.now) n.kind) n.number }
     {
         self.of_kind(n.kind).name(n.number)
     }
 
     /// Returns the number of keys of this kind that have a number.
     pub fn count(&self, kind: Kind) -> usize
-        ensures { result ≡ length (names_of_kind (names_in self.now) kind) }
+        ensures { result ≡ length (key_number_names_of_kind (key_number_names_in self.now) kind) }
     {
         self.of_kind(kind).len()
     }
 
     /// Makes room for one more key of this kind.
     pub fn reserve_one(&mut self, kind: Kind) -> Result<(), AllocError>
-        ensures names { names_in self.new ≡ names_in self.old }
-        ensures ok { OnOk result (0 < spare_of self.new kind) }
+        ensures names { key_number_names_in self.new ≡ key_number_names_in self.old }
+        ensures ok { OnOk result (0 < spare_key_numbers_of_kind self.new kind) }
     {
         match kind {
             Kind::Unit => self.units.reserve_one(),
@@ -80,9 +82,9 @@ impl KeyNumbers {
 
     /// Gives a key the next number of its kind, unless it has a number, and returns its number. Allocates no memory.
     pub fn put(&mut self, key: Key) -> KeyNumber
-        requires { 0 < spare_of self.old key.kind }
-        ensures names { names_in self.new ≡ with_key (names_in self.old) key }
-        ensures number { key_numbered (names_in self.new) result ≡ Some key }
+        requires { 0 < spare_key_numbers_of_kind self.old key.kind }
+        ensures names { key_number_names_in self.new ≡ key_numbers_with_key (key_number_names_in self.old) key }
+        ensures number { key_numbered (key_number_names_in self.new) result ≡ Some key }
     {
         let kind = key.kind;
         let name = key.name.into_bytes();
@@ -97,7 +99,7 @@ impl KeyNumbers {
 
     // Returns the table of names of a kind.
     fn of_kind(&self, kind: Kind) -> &NameSet
-        ensures { result.now.names ≡ names_of_kind (names_in self.now) kind }
+        ensures { result.now.names ≡ key_number_names_of_kind (key_number_names_in self.now) kind }
     {
         match kind {
             Kind::Unit => &self.units,

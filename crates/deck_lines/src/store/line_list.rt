@@ -2,9 +2,9 @@
 
 ghost use Rattle.std.specs.Prelude.{◌≡◌, ◌++◌, ◌∷◌, ◌+◌, ◌<◌, ◌≤◌, [], false, not, length, map, take, drop, IfOk};
 ghost use Rattle.std.specs.Prelude.{IfErr, OnOk, OnErr, Some, slice_get};
-ghost use Rattle.deck_lines.specs.Limits.{bytes_in, most_bytes, pass_limit, text_len};
-ghost use Rattle.deck_lines.specs.Marks.{line_without_mark, with_mark, with_marks};
-ghost use Rattle.deck_lines.specs.Exchanges.{IsExchanged};
+ghost use Rattle.deck_lines.specs.Limits.{most_store_bytes, pass_store_limit, stored_bytes_in, stored_text_len};
+ghost use Rattle.deck_lines.specs.Marks.{store_line_with_mark, store_line_without_mark, store_lines_with_marks};
+ghost use Rattle.deck_lines.specs.Exchanges.{IsStoreExchanged};
 ghost use Rattle.deck_lines.specs.declared.line.DeckLine as line_spec;
 
 use super::line_replacement::exchange_in_list;
@@ -31,14 +31,14 @@ pub(crate) struct LineList {
 impl Model for LineList {
     ghost use Rattle.std.specs.Prelude.{List};
     ghost use Rattle.deck_lines.specs.declared.line.DeckLine.{DeckLine};
-    ghost use Rattle.deck_lines.specs.Marks.{with_marks};
-    ghost use Rattle.deck_lines.specs.Within.{IsWithin};
+    ghost use Rattle.deck_lines.specs.Marks.{store_lines_with_marks};
+    ghost use Rattle.deck_lines.specs.Within.{IsWithinStoreLimit};
 
     ghost Value = { List DeckLine };
 
-    ghost view = { λ l. with_marks l.lines l.marks.listed };
+    ghost view = { λ l. store_lines_with_marks l.lines l.marks.listed };
 
-    ghost invariant = { λ l. IsWithin l.lines l.marks.listed l.bytes };
+    ghost invariant = { λ l. IsWithinStoreLimit l.lines l.marks.listed l.bytes };
 }
 
 impl LineList {
@@ -62,8 +62,8 @@ impl LineList {
 
     /// Returns the lines without their marks.
     pub(crate) fn lines(&self) -> &Lines
-        ensures lines { result.now ≡ map line_without_mark self.now }
-        ensures within { pass_limit self.now ≡ false }
+        ensures lines { result.now ≡ map store_line_without_mark self.now }
+        ensures within { pass_store_limit self.now ≡ false }
     {
         &self.lines
     }
@@ -73,7 +73,7 @@ impl LineList {
         requires { place < length self.now }
         ensures is { slice_get self.now place
             ≡ Some (record { number = result.number; text = result.text.now; mark = result.mark }) }
-        ensures within { pass_limit self.now ≡ false }
+        ensures within { pass_store_limit self.now ≡ false }
     {
         let Some(line) = self.lines.get(place) else {
             unreachable!()
@@ -91,15 +91,15 @@ impl LineList {
     /// Reports whether one more line with a text of `len` bytes is within the limits.
     pub(crate) fn has_room(&self, len: usize) -> bool
         ensures { (line : line_spec.DeckLine) → length line.text ≡ len
-            → pass_limit (self.now ++ line ∷ []) ≡ not result }
+            → pass_store_limit (self.now ++ line ∷ []) ≡ not result }
     {
         self.lines.len() < MOST_LINES && len <= MOST_BYTES - self.bytes
     }
 
     /// Appends a line with its mark. On an error nothing changes.
     pub(crate) fn push(&mut self, alloc: Global, line: Line, mark: bool) -> Result<(), AllocError>
-        requires { pass_limit (self.old ++ with_mark mark line ∷ []) ≡ false }
-        ensures ok { OnOk result (self.new ≡ self.old ++ with_mark mark line ∷ []) }
+        requires { pass_store_limit (self.old ++ store_line_with_mark mark line ∷ []) ≡ false }
+        ensures ok { OnOk result (self.new ≡ self.old ++ store_line_with_mark mark line ∷ []) }
         ensures err { OnErr result (self.new ≡ self.old) }
     {
         let len = line.text.as_bytes().len();
@@ -142,8 +142,8 @@ impl LineList {
         put: DeckLines,
     ) -> Result<DeckLines, AllocFailed<DeckLines>>
         requires places { at + cut ≤ length self.old }
-        requires within { pass_limit (take at self.old ++ (put ++ drop (at + cut) self.old)) ≡ false }
-        ensures ok { OnOk result (IsExchanged at cut put self.old self.new) }
+        requires within { pass_store_limit (take at self.old ++ (put ++ drop (at + cut) self.old)) ≡ false }
+        ensures ok { OnOk result (IsStoreExchanged at cut put self.old self.new) }
         ensures gone { IfOk result (λ gone. gone ≡ take cut (drop at self.old)) }
         ensures err { OnErr result (self.new ≡ self.old) }
         ensures back { IfErr result (λ refused. refused.value ≡ put) }
@@ -157,8 +157,8 @@ impl LineList {
 
 // Returns the total number of bytes in the texts of lines with marks.
 fn marked_texts_len(lines: &[DeckLine]) -> usize
-    requires { text_len lines.now ≤ most_bytes }
-    ensures { result ≡ text_len lines.now }
+    requires { stored_text_len lines.now ≤ most_store_bytes }
+    ensures { result ≡ stored_text_len lines.now }
 {
     let mut len = 0;
     for line in lines {
@@ -170,8 +170,8 @@ fn marked_texts_len(lines: &[DeckLine]) -> usize
 // Returns the total number of bytes in the texts of the lines from `start` on.
 fn texts_len(lines: &Lines, start: usize) -> usize
     requires range { start ≤ length lines.now }
-    requires within { bytes_in lines.now ≤ most_bytes }
-    ensures { result ≡ bytes_in (drop start lines.now) }
+    requires within { stored_bytes_in lines.now ≤ most_store_bytes }
+    ensures { result ≡ stored_bytes_in (drop start lines.now) }
 {
     let mut len = 0;
     for place in start..lines.len() {

@@ -2,8 +2,8 @@
 
 ghost use Rattle.std.specs.Prelude.{◌≡◌, ◌++◌, ◌+◌, ◌≤◌, [], length, map, take, drop, vec_capacity, vec_len, IfOk};
 ghost use Rattle.std.specs.Prelude.{IfErr, OnOk, OnErr};
-ghost use Rattle.deck_lines.specs.Exchanges.{HasExchangeRoom, IsExchanged};
-ghost use Rattle.deck_lines.specs.Marks.{line_without_mark, mark_of, with_marks};
+ghost use Rattle.deck_lines.specs.Exchanges.{HasStoreExchangeRoom, IsStoreExchanged};
+ghost use Rattle.deck_lines.specs.Marks.{mark_of_store_line, store_line_without_mark, store_lines_with_marks};
 
 use super::exchange::exchange;
 use super::lists;
@@ -25,10 +25,10 @@ pub(crate) fn exchange_in_list(
 ) -> Result<DeckLines, AllocFailed<DeckLines>>
     requires each { length marks.old.listed ≡ length lines.old }
     requires places { at + cut ≤ length lines.old }
-    ensures ok { OnOk result (IsExchanged at cut (map line_without_mark put) lines.old lines.new
-        × IsExchanged at cut (map mark_of put) marks.old.listed marks.new.listed) }
+    ensures ok { OnOk result (IsStoreExchanged at cut (map store_line_without_mark put) lines.old lines.new
+        × IsStoreExchanged at cut (map mark_of_store_line put) marks.old.listed marks.new.listed) }
     ensures gone { IfOk result (λ gone.
-        gone ≡ with_marks (take cut (drop at lines.old)) (take cut (drop at marks.old.listed))) }
+        gone ≡ store_lines_with_marks (take cut (drop at lines.old)) (take cut (drop at marks.old.listed))) }
     ensures err { OnErr result ((lines.new ≡ lines.old) × (marks.new.listed ≡ marks.old.listed)) }
     ensures back { IfErr result (λ refused. refused.value ≡ put) }
 {
@@ -51,10 +51,10 @@ fn exchange_marked(
 ) -> Result<DeckLines, AllocFailed<DeckLines>>
     requires each { length marks.old.items ≡ length lines.old.items }
     requires places { at + cut ≤ length lines.old.items }
-    ensures ok { OnOk result (IsExchanged at cut (map line_without_mark put) lines.old.items lines.new.items
-        × IsExchanged at cut (map mark_of put) marks.old.items marks.new.items) }
+    ensures ok { OnOk result (IsStoreExchanged at cut (map store_line_without_mark put) lines.old.items lines.new.items
+        × IsStoreExchanged at cut (map mark_of_store_line put) marks.old.items marks.new.items) }
     ensures gone { IfOk result (λ gone.
-        gone ≡ with_marks (take cut (drop at lines.old.items)) (take cut (drop at marks.old.items))) }
+        gone ≡ store_lines_with_marks (take cut (drop at lines.old.items)) (take cut (drop at marks.old.items))) }
     ensures err { OnErr result ((lines.new.items ≡ lines.old.items) × (marks.new.items ≡ marks.old.items)) }
     ensures back { IfErr result (λ refused. refused.value ≡ put) }
 {
@@ -97,7 +97,7 @@ fn room_for(
     ensures marks { marks.new.items ≡ marks.old.items }
     ensures line_room { OnOk result (vec_len lines.new + put ≤ vec_capacity lines.new) }
     ensures mark_room { OnOk result (vec_len marks.new + put ≤ vec_capacity marks.new) }
-    ensures room { IfOk result (HasExchangeRoom put cut) }
+    ensures room { IfOk result (HasStoreExchangeRoom put cut) }
 {
     lines.reserve(put)?;
     marks.reserve(put)?;
@@ -116,8 +116,8 @@ fn take_apart(from: DeckLines, lines: &mut Vec<Line>, marks: &mut Vec<bool>)
     requires mark_room { length from ≤ vec_capacity marks.old }
     requires no_lines { lines.old.items ≡ [] }
     requires no_marks { marks.old.items ≡ [] }
-    ensures lines { lines.new.items ≡ map line_without_mark from }
-    ensures marks { marks.new.items ≡ map mark_of from }
+    ensures lines { lines.new.items ≡ map store_line_without_mark from }
+    ensures marks { marks.new.items ≡ map mark_of_store_line from }
 {
     let mut rest = from.into_vec();
     while let Some(line) = rest.pop() {
@@ -134,7 +134,7 @@ fn put_together(mut lines: Vec<Line>, mut marks: Vec<bool>, into: &mut Vec<DeckL
     requires each { length marks.items ≡ length lines.items }
     requires room { length lines.items ≤ vec_capacity into.old }
     requires empty { into.old.items ≡ [] }
-    ensures { into.new.items ≡ with_marks lines.items marks.items }
+    ensures { into.new.items ≡ store_lines_with_marks lines.items marks.items }
 {
     while let Some(line) = lines.pop() {
         if let Some(mark) = marks.pop() {

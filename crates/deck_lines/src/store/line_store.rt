@@ -6,16 +6,17 @@ ghost use Rattle.std.specs.Option.{option_copied};
 ghost use Rattle.def_entry.specs.Keys.{key};
 ghost use Rattle.def_entry.specs.LineViews.{seen_entry};
 ghost use Rattle.def_entry.specs.Views.{entry_view};
-ghost use Rattle.deck_lines.specs.Exchanges.{IsExchanged};
-ghost use Rattle.deck_lines.specs.StoredDefinitions.{IsDefined, keyed_definition, seen_definition};
-ghost use Rattle.deck_lines.specs.Limits.{most_lines, pass_limit};
-ghost use Rattle.deck_lines.specs.Loads.{with_lines};
-ghost use Rattle.deck_lines.specs.Marks.{line_without_mark, with_mark};
-ghost use Rattle.deck_lines.specs.Names.{IsExtended, is_numbered, key_numbered, names_of_kind};
-ghost use Rattle.deck_lines.specs.KeyNumbering.{IsNumbering};
-ghost use Rattle.deck_lines.specs.Readings.{entry_in};
-ghost use Rattle.deck_lines.specs.Renumberings.{IsRenumbering};
-ghost use Rattle.deck_lines.specs.Stores.{definition_at, no_lines, store_with_line};
+ghost use Rattle.deck_lines.specs.Exchanges.{IsStoreExchanged};
+ghost use Rattle.deck_lines.specs.StoredDefinitions.{IsStoreDefined, keyed_store_definition, seen_store_definition};
+ghost use Rattle.deck_lines.specs.Limits.{most_store_lines, pass_store_limit};
+ghost use Rattle.deck_lines.specs.Loads.{store_with_lines};
+ghost use Rattle.deck_lines.specs.Marks.{store_line_with_mark, store_line_without_mark};
+ghost use Rattle.deck_lines.specs.Names.{AreKeyNumbersExtended, is_key_numbered, key_number_names_of_kind};
+ghost use Rattle.deck_lines.specs.Names.{key_numbered};
+ghost use Rattle.deck_lines.specs.KeyNumbering.{IsKeyNumbering};
+ghost use Rattle.deck_lines.specs.Readings.{entry_in_store_line};
+ghost use Rattle.deck_lines.specs.Renumberings.{IsKeyRenumbering};
+ghost use Rattle.deck_lines.specs.Stores.{store_definition_at, store_with_line, store_without_lines};
 ghost use Rattle.deck_lines.specs.declared.line.DeckLine as line_spec;
 
 use super::definitions::{Definition, Definitions, PutDefinitions};
@@ -48,22 +49,22 @@ impl Drop for LineStore {
 }
 
 impl Model for LineStore {
-    ghost use Rattle.deck_lines.specs.NumberedKeys.{names_in};
-    ghost use Rattle.deck_lines.specs.Stores.{Store};
+    ghost use Rattle.deck_lines.specs.NumberedKeys.{key_number_names_in};
+    ghost use Rattle.deck_lines.specs.Stores.{LineStoreView};
 
-    ghost Value = { Store };
+    ghost Value = { LineStoreView };
 
-    ghost use Rattle.deck_lines.specs.StoredDefinitions.{HoldsDefinitions};
+    ghost use Rattle.deck_lines.specs.StoredDefinitions.{HoldsStoreDefinitions};
 
-    ghost view = { λ s. record { lines = s.lines; names = names_in s.definitions.keys } };
+    ghost view = { λ s. record { lines = s.lines; names = key_number_names_in s.definitions.keys } };
 
-    ghost invariant = { λ s. HoldsDefinitions s.lines s.definitions };
+    ghost invariant = { λ s. HoldsStoreDefinitions s.lines s.definitions };
 }
 
 impl LineStore {
     /// Returns a store without lines and numbered keys. `seed` is the hash seed of its tables of names.
     pub fn new(alloc: Global, seed: HashSeed) -> LineStore
-        ensures { result ≡ no_lines }
+        ensures { result ≡ store_without_lines }
     {
         LineStore {
             lines: LineList::new(alloc),
@@ -79,22 +80,22 @@ impl LineStore {
     /// Returns the number of lines.
     pub fn len(&self) -> usize
         ensures count { result ≡ length self.now.lines }
-        ensures numbering { IsNumbering self.now }
+        ensures numbering { IsKeyNumbering self.now }
     {
         self.lines.len()
     }
 
     /// A lemma: the store has at most `MOST_LINES` lines.
     pub fn lines_few(&self)
-        ensures { length self.now.lines ≤ most_lines }
+        ensures { length self.now.lines ≤ most_store_lines }
     {
         let _ = self.lines();
     }
 
     /// Returns the lines without their marks.
     pub fn lines(&self) -> &Lines
-        ensures lines { result.now ≡ map line_without_mark self.now.lines }
-        ensures within { pass_limit self.now.lines ≡ false }
+        ensures lines { result.now ≡ map store_line_without_mark self.now.lines }
+        ensures within { pass_store_limit self.now.lines ≡ false }
     {
         self.lines.lines()
     }
@@ -104,7 +105,7 @@ impl LineStore {
         requires { place < length self.now.lines }
         ensures is { slice_get self.now.lines place
             ≡ Some (record { number = result.number; text = result.text.now; mark = result.mark }) }
-        ensures within { pass_limit self.now.lines ≡ false }
+        ensures within { pass_store_limit self.now.lines ≡ false }
     {
         self.lines.line(place)
     }
@@ -112,7 +113,7 @@ impl LineStore {
     /// Reports whether one more line with a text of `len` bytes is within the limits.
     pub fn has_room(&self, len: usize) -> bool
         ensures { (line : line_spec.DeckLine) → length line.text ≡ len
-            → pass_limit (self.now.lines ++ line ∷ []) ≡ not result }
+            → pass_store_limit (self.now.lines ++ line ∷ []) ≡ not result }
     {
         self.lines.has_room(len)
     }
@@ -126,11 +127,12 @@ impl LineStore {
         mark: bool,
         definition: Option<(Key, What)>,
     ) -> Result<Option<KeyNumber>, AllocError>
-        requires reads { option_map (seen_entry line.text) definition ≡ entry_in (with_mark mark line) }
-        requires room { pass_limit (self.old.lines ++ with_mark mark line ∷ []) ≡ false }
-        ensures ok { OnOk result (self.new ≡ store_with_line self.old (with_mark mark line)) }
+        requires reads { option_map (seen_entry line.text) definition
+            ≡ entry_in_store_line (store_line_with_mark mark line) }
+        requires room { pass_store_limit (self.old.lines ++ store_line_with_mark mark line ∷ []) ≡ false }
+        ensures ok { OnOk result (self.new ≡ store_with_line self.old (store_line_with_mark mark line)) }
         ensures number { IfOk result (λ n. option_map (key_numbered self.new.names) n
-            ≡ option_map (λ d. Some d.0) (entry_in (with_mark mark line))) }
+            ≡ option_map (λ d. Some d.0) (entry_in_store_line (store_line_with_mark mark line))) }
         ensures err { OnErr result (self.new ≡ self.old) }
     {
         self.definitions.reserve_for(&definition)?;
@@ -140,7 +142,7 @@ impl LineStore {
 
     /// Returns the entry that the line at `place` defines, or `None` if it defines nothing or there is no such line.
     pub fn entry(&self, place: usize) -> Option<Entry<'_>>
-        ensures { option_map entry_view result ≡ option_map (λ d. d.1) (definition_at self.now.lines place) }
+        ensures { option_map entry_view result ≡ option_map (λ d. d.1) (store_definition_at self.now.lines place) }
     {
         match self.definitions.at(place) {
             Some(definition) => Some(Entry {
@@ -155,8 +157,8 @@ impl LineStore {
     /// such line.
     pub fn key_number(&self, place: usize) -> Option<KeyNumber>
         ensures number { option_map (key_numbered self.now.names) result
-            ≡ option_map (λ d. Some d.0) (definition_at self.now.lines place) }
-        ensures numbering { IsNumbering self.now }
+            ≡ option_map (λ d. Some d.0) (store_definition_at self.now.lines place) }
+        ensures numbering { IsKeyNumbering self.now }
     {
         match self.definitions.at(place) {
             Some(definition) => Some(definition.key),
@@ -168,16 +170,16 @@ impl LineStore {
     /// memory.
     pub fn number_of(&self, kind: Kind, name: &[u8]) -> Option<KeyNumber>
         ensures number { MatchOption result
-            (is_numbered self.now.names (key kind name.now) ≡ false)
+            (is_key_numbered self.now.names (key kind name.now) ≡ false)
             (λ n. key_numbered self.now.names n ≡ Some (key kind name.now)) }
-        ensures numbering { IsNumbering self.now }
+        ensures numbering { IsKeyNumbering self.now }
     {
         self.definitions.keys.number_of(kind, name)
     }
 
     /// Returns the name of the key with this number, or `None` if there is no such key.
     pub fn name(&self, n: KeyNumber) -> Option<&[u8]>
-        ensures { option_copied result ≡ slice_get (names_of_kind self.now.names n.kind) n.number }
+        ensures { option_copied result ≡ slice_get (key_number_names_of_kind self.now.names n.kind) n.number }
     {
         self.definitions.keys.name(n)
     }
@@ -185,8 +187,8 @@ impl LineStore {
     /// Returns the number of keys of a kind that have a number. Their numbers are those from 0 to one less than this
     /// count.
     pub fn name_count(&self, kind: Kind) -> usize
-        ensures count { result ≡ length (names_of_kind self.now.names kind) }
-        ensures numbering { IsNumbering self.now }
+        ensures count { result ≡ length (key_number_names_of_kind self.now.names kind) }
+        ensures numbering { IsKeyNumbering self.now }
     {
         self.definitions.keys.count(kind)
     }
@@ -205,8 +207,8 @@ impl LineStore {
 
     /// Gives these numbers to the keys that lines define, and forgets all other keys. Allocates no memory.
     pub fn renumber(&mut self, numbers: Renumbering)
-        requires { IsRenumbering self.old.lines numbers }
-        ensures { self.new ≡ with_lines no_lines self.old.lines }
+        requires { IsKeyRenumbering self.old.lines numbers }
+        ensures { self.new ≡ store_with_lines store_without_lines self.old.lines }
     {
         self.definitions.renumber(numbers);
     }
@@ -234,18 +236,19 @@ impl LineStore {
     /// and the existing numbers of keys do not change, even on an error.
     pub fn read(&mut self, alloc: Global, lines: &[DeckLine]) -> Result<PutDefinitions, AllocError>
         ensures lines { self.new.lines ≡ self.old.lines }
-        ensures extended { IsExtended self.old.names self.new.names }
-        ensures before { IsNumbering self.old }
-        ensures after { IsNumbering self.new }
-        ensures ok { IfOk result (λ put. IsDefined self.new.names put.of_lines.items (map entry_in lines.now)) }
+        ensures extended { AreKeyNumbersExtended self.old.names self.new.names }
+        ensures before { IsKeyNumbering self.old }
+        ensures after { IsKeyNumbering self.new }
+        ensures ok { IfOk result (λ put. IsStoreDefined self.new.names put.of_lines.items
+            (map entry_in_store_line lines.now)) }
     {
         read_definitions(alloc, &mut self.definitions.keys, lines)
     }
 
     // Returns the definition of the line at `place`, or `None` if it defines nothing or there is no such line.
     pub(super) fn definition(&self, place: usize) -> Option<&Definition>
-        ensures { option_map (seen_definition self.now.names) (option_copied result)
-            ≡ option_map keyed_definition (definition_at self.now.lines place) }
+        ensures { option_map (seen_store_definition self.now.names) (option_copied result)
+            ≡ option_map keyed_store_definition (store_definition_at self.now.lines place) }
     {
         self.definitions.at(place)
     }
@@ -261,9 +264,9 @@ impl LineStore {
         definitions: PutDefinitions,
     ) -> Result<DeckLines, AllocFailed<DeckLines>>
         requires places { at + cut ≤ length self.old.lines }
-        requires within { pass_limit (take at self.old.lines ++ (put ++ drop (at + cut) self.old.lines)) ≡ false }
-        requires defined { IsDefined self.old.names definitions.of_lines.items (map entry_in put) }
-        ensures ok { OnOk result (IsExchanged at cut put self.old.lines self.new.lines) }
+        requires within { pass_store_limit (take at self.old.lines ++ (put ++ drop (at + cut) self.old.lines)) ≡ false }
+        requires defined { IsStoreDefined self.old.names definitions.of_lines.items (map entry_in_store_line put) }
+        ensures ok { OnOk result (IsStoreExchanged at cut put self.old.lines self.new.lines) }
         ensures gone { IfOk result (λ gone. gone ≡ take cut (drop at self.old.lines)) }
         ensures names { self.new.names ≡ self.old.names }
         ensures err { OnErr result (self.new ≡ self.old) }

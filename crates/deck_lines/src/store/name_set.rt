@@ -4,7 +4,7 @@ ghost use Rattle.std.specs.Prelude.{◌≡◌, ◌<◌, [], Some, false, length,
 ghost use Rattle.std.specs.List.{list_any};
 ghost use Rattle.std.specs.Option.{option_copied};
 ghost use Rattle.std.specs.Str.{bytes_eq};
-ghost use Rattle.deck_lines.specs.Names.{with_name};
+ghost use Rattle.deck_lines.specs.Names.{key_number_names_with_name};
 
 use indexmap::IndexSet;
 use std::alloc::{AllocError, Global};
@@ -23,13 +23,13 @@ pub(crate) struct NameSet {
 impl Model for NameSet {
     ghost use Rattle.std.specs.Prelude.{map};
     ghost use Rattle.indexmap.specs.IndexSet.{spare};
-    ghost use Rattle.deck_lines.specs.NumberedNames.{AreUpTo, NumberedNames};
+    ghost use Rattle.deck_lines.specs.NumberedNames.{AreKeyNamesUpTo, NumberedKeyNames};
 
-    ghost Value = { NumberedNames };
+    ghost Value = { NumberedKeyNames };
 
     ghost view = { λ s. record { names = map (λ name. name.items) s.names.keys; spare_names = spare s.names } };
 
-    ghost invariant = { λ s. AreUpTo s.longest (map (λ name. name.items) s.names.keys) };
+    ghost invariant = { λ s. AreKeyNamesUpTo s.longest (map (λ name. name.items) s.names.keys) };
 }
 
 impl NameSet {
@@ -88,7 +88,7 @@ impl NameSet {
     /// Gives a name the next number, unless it has a number, and returns its number. Allocates no memory.
     pub fn put(&mut self, name: Vec<u8>) -> usize
         requires { 0 < self.old.spare_names }
-        ensures names { self.new.names ≡ with_name name.items self.old.names }
+        ensures names { self.new.names ≡ key_number_names_with_name name.items self.old.names }
         ensures number { slice_get self.new.names result ≡ Some name.items }
     {
         self.longest = self.longest.max(name.len());

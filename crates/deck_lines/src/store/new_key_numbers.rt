@@ -1,10 +1,10 @@
 //! New numbers for the keys that lines define.
 
 ghost use Rattle.std.specs.Prelude.{◌≡◌, Some, length, option_map, IfOk, OnOk};
-ghost use Rattle.deck_lines.specs.Names.{key_numbered, names_of_kind};
-ghost use Rattle.deck_lines.specs.NumberedKeys.{names_in};
-ghost use Rattle.deck_lines.specs.Renumberings.{IsRenumbering, names_after};
-ghost use Rattle.deck_lines.specs.Stores.{definition_at, with_definition};
+ghost use Rattle.deck_lines.specs.Names.{key_number_names_of_kind, key_numbered};
+ghost use Rattle.deck_lines.specs.NumberedKeys.{key_number_names_in};
+ghost use Rattle.deck_lines.specs.Renumberings.{IsKeyRenumbering, key_number_names_after};
+ghost use Rattle.deck_lines.specs.Stores.{key_numbers_by_definition, store_definition_at};
 
 use super::key_numbers::KeyNumbers;
 use super::line_store::LineStore;
@@ -25,7 +25,7 @@ impl Renumbering {
     /// Returns the numbers that keys would get if the lines of `store` were put into an empty store. Makes one pass
     /// over the definitions, and reads no line. The only error is running out of memory.
     pub fn of_store(alloc: Global, store: &LineStore) -> Result<Renumbering, AllocError>
-        ensures { IfOk result (λ r. IsRenumbering store.now.lines r) }
+        ensures { IfOk result (λ r. IsKeyRenumbering store.now.lines r) }
     {
         let mut keys = KeyNumbers::new(alloc, store.table_seed());
         let mut of_lines = Vec::with_capacity(alloc, store.len())?;
@@ -38,7 +38,7 @@ impl Renumbering {
 
     /// Returns the number of keys of a kind that have a number.
     pub fn name_count(&self, kind: Kind) -> usize
-        ensures { result ≡ length (names_of_kind (names_after self.now) kind) }
+        ensures { result ≡ length (key_number_names_of_kind (key_number_names_after self.now) kind) }
     {
         self.keys.count(kind)
     }
@@ -52,10 +52,10 @@ fn number_line(
     keys: &mut KeyNumbers,
     place: usize,
 ) -> Result<Option<KeyNumber>, AllocError>
-    ensures names { OnOk result (names_in keys.new
-        ≡ with_definition (names_in keys.old) (definition_at store.now.lines place)) }
-    ensures number { IfOk result (λ n. option_map (key_numbered (names_in keys.new)) n
-        ≡ option_map (λ d. Some d.0) (definition_at store.now.lines place)) }
+    ensures names { OnOk result (key_number_names_in keys.new
+        ≡ key_numbers_by_definition (key_number_names_in keys.old) (store_definition_at store.now.lines place)) }
+    ensures number { IfOk result (λ n. option_map (key_numbered (key_number_names_in keys.new)) n
+        ≡ option_map (λ d. Some d.0) (store_definition_at store.now.lines place)) }
 {
     let Some(number) = store.key_number(place) else {
         return Ok(None);

@@ -1,7 +1,7 @@
 //! The origin of each line after an exchange.
 
 ghost use Rattle.std.specs.Prelude.{◌≡◌, ◌≤◌, ◌<◌, ◌+◌, List, Some, length, slice_get};
-ghost use Rattle.deck_lines.specs.Origins.{exchanged_lines, line_from};
+ghost use Rattle.deck_lines.specs.Origins.{exchanged_store_lines, store_line_from_origin};
 ghost use Rattle.deck_lines.specs.declared.line.DeckLine as line_spec;
 
 use super::line_store::LineStore;
@@ -23,7 +23,7 @@ pub(crate) enum Origin {
 pub(crate) fn origin_of(count: usize, at: usize, cut: usize, put: usize, place: usize) -> Origin
     requires { at + cut ≤ count }
     ensures { (lines others : List line_spec.DeckLine) → length lines ≡ count → length others ≡ put
-        → slice_get (exchanged_lines at cut others lines) place ≡ line_from lines others result }
+        → slice_get (exchanged_store_lines at cut others lines) place ≡ store_line_from_origin lines others result }
 {
     if place < at {
         return Origin::Stored(place);
@@ -48,8 +48,8 @@ pub(crate) fn line_at<'a>(
     place: usize,
 ) -> BorrowedLine<'a>
     requires places { at + cut ≤ length store.now.lines }
-    requires inside { place < length (exchanged_lines at cut put.now store.now.lines) }
-    ensures { slice_get (exchanged_lines at cut put.now store.now.lines) place
+    requires inside { place < length (exchanged_store_lines at cut put.now store.now.lines) }
+    ensures { slice_get (exchanged_store_lines at cut put.now store.now.lines) place
         ≡ Some (record { number = result.number; text = result.text.now; mark = result.mark }) }
 {
     match origin_of(store.len(), at, cut, put.len(), place) {

@@ -1,11 +1,11 @@
 //! Reads the definitions of lines that are to be put into a store.
 
 ghost use Rattle.std.specs.Prelude.{◌≡◌, Some, map, option_map, IfOk};
-ghost use Rattle.def_entry.specs.Views.{what_view};
-ghost use Rattle.deck_lines.specs.StoredDefinitions.{IsDefined, keyed_definition, seen_definition};
-ghost use Rattle.deck_lines.specs.Names.{IsExtended, IsOneToOne};
-ghost use Rattle.deck_lines.specs.NumberedKeys.{names_in};
-ghost use Rattle.deck_lines.specs.Readings.{entry_in};
+ghost use Rattle.def_entry.specs.Views.{entry_definition_view};
+ghost use Rattle.deck_lines.specs.StoredDefinitions.{IsStoreDefined, keyed_store_definition, seen_store_definition};
+ghost use Rattle.deck_lines.specs.Names.{AreKeyNumbersExtended, AreKeyNumbersOneToOne};
+ghost use Rattle.deck_lines.specs.NumberedKeys.{key_number_names_in};
+ghost use Rattle.deck_lines.specs.Readings.{entry_in_store_line};
 
 use super::definitions::{Definition, PutDefinitions};
 use super::key_numbers::KeyNumbers;
@@ -21,9 +21,11 @@ pub(crate) fn read_definitions(
     keys: &mut KeyNumbers,
     lines: &[DeckLine],
 ) -> Result<PutDefinitions, AllocError>
-    ensures extended { IsExtended (names_in keys.old) (names_in keys.new) }
-    ensures unique { IsOneToOne (names_in keys.old) → IsOneToOne (names_in keys.new) }
-    ensures ok { IfOk result (λ put. IsDefined (names_in keys.new) put.of_lines.items (map entry_in lines.now)) }
+    ensures extended { AreKeyNumbersExtended (key_number_names_in keys.old) (key_number_names_in keys.new) }
+    ensures unique { AreKeyNumbersOneToOne (key_number_names_in keys.old)
+        → AreKeyNumbersOneToOne (key_number_names_in keys.new) }
+    ensures ok { IfOk result (λ put. IsStoreDefined (key_number_names_in keys.new) put.of_lines.items
+        (map entry_in_store_line lines.now)) }
 {
     let mut definitions = Vec::new(alloc);
     for line in lines {
@@ -36,16 +38,17 @@ pub(crate) fn read_definitions(
 }
 
 // Returns the definition of a line, or `None` if it defines nothing.
-#[tactic(auto, unfolding(crate::specs::Readings::entry_in))]
+#[tactic(auto, unfolding(crate::specs::Readings::entry_in_store_line))]
 fn definition_of(
     alloc: Global,
     keys: &mut KeyNumbers,
     line: &DeckLine,
 ) -> Result<Option<Definition>, AllocError>
-    ensures extended { IsExtended (names_in keys.old) (names_in keys.new) }
-    ensures unique { IsOneToOne (names_in keys.old) → IsOneToOne (names_in keys.new) }
-    ensures ok { IfOk result (λ d. option_map (seen_definition (names_in keys.new)) d
-        ≡ option_map keyed_definition (entry_in line.now)) }
+    ensures extended { AreKeyNumbersExtended (key_number_names_in keys.old) (key_number_names_in keys.new) }
+    ensures unique { AreKeyNumbersOneToOne (key_number_names_in keys.old)
+        → AreKeyNumbersOneToOne (key_number_names_in keys.new) }
+    ensures ok { IfOk result (λ d. option_map (seen_store_definition (key_number_names_in keys.new)) d
+        ≡ option_map keyed_store_definition (entry_in_store_line line.now)) }
 {
     if line.mark {
         return Ok(None);
@@ -60,9 +63,11 @@ fn definition_of(
 
 // Returns a definition with the number of its key. A key without a number gets the next number of its kind.
 fn number_definition(keys: &mut KeyNumbers, key: Key, what: What) -> Result<Definition, AllocError>
-    ensures extended { IsExtended (names_in keys.old) (names_in keys.new) }
-    ensures unique { IsOneToOne (names_in keys.old) → IsOneToOne (names_in keys.new) }
-    ensures ok { IfOk result (λ d. seen_definition (names_in keys.new) d ≡ (Some key, what_view what)) }
+    ensures extended { AreKeyNumbersExtended (key_number_names_in keys.old) (key_number_names_in keys.new) }
+    ensures unique { AreKeyNumbersOneToOne (key_number_names_in keys.old)
+        → AreKeyNumbersOneToOne (key_number_names_in keys.new) }
+    ensures ok { IfOk result (λ d. seen_store_definition (key_number_names_in keys.new) d
+        ≡ (Some key, entry_definition_view what)) }
 {
     keys.reserve_one(key.kind)?;
     let key = keys.put(key);

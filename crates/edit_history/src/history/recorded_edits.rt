@@ -2,12 +2,12 @@
 
 ghost use Rattle.std.specs.Prelude.{◌≡◌, true, Some, IfErr, OnErr, OnOk};
 ghost use Rattle.units_io.specs.FileMap.{FileMap};
-ghost use Rattle.def_lines.specs.Blanks.{trim_of};
+ghost use Rattle.def_lines.specs.Blanks.{trimmed_of_blanks};
 ghost use Rattle.deck_lines.specs.Transcripts.{IsLoad, IsTranscript};
 ghost use Rattle.deck.specs.Edits as deck_edit;
 ghost use Rattle.deck.specs.FileLoads as loading;
 ghost use Rattle.deck.specs.declared.fault.DeckFault.TheVariants.{OutOfMemory};
-ghost use Rattle.live_table.specs.Calls.{IsAcceptedEdit};
+ghost use Rattle.live_table.specs.Calls.{IsAcceptedLiveEdit};
 ghost use Rattle.live_table.specs.Edits as edit;
 ghost use Rattle.edit_history.specs.Calls as calls;
 ghost use Rattle.edit_history.specs.Histories.{IsHistoryOf};
@@ -39,9 +39,9 @@ impl History {
     ) -> Result<(), DeckFault>
         requires { IsHistoryOf self.old table.old.deck }
         ensures follows { IsHistoryOf self.new table.new.deck }
-        ensures edit { edit.IsEditOf (deck_edit.after_define (trim_of line.now) table.old.deck)
+        ensures edit { edit.IsLiveEditOf (deck_edit.deck_after_defining (trimmed_of_blanks line.now) table.old.deck)
             table.old table.new result }
-        ensures noted { calls.IsNoted self.old self.new table.old.deck table.new.deck result }
+        ensures noted { calls.IsEditRecorded self.old self.new table.old.deck table.new.deck result }
     {
         stack::make_room(&mut self.done)?;
         table.deck().lines_closed();
@@ -61,8 +61,9 @@ impl History {
     ) -> Result<(), DeckFault>
         requires { IsHistoryOf self.old table.old.deck }
         ensures follows { IsHistoryOf self.new table.new.deck }
-        ensures edit { edit.IsEditOf (deck_edit.after_drop key.now table.old.deck) table.old table.new result }
-        ensures noted { calls.IsNoted self.old self.new table.old.deck table.new.deck result }
+        ensures edit { edit.IsLiveEditOf (deck_edit.deck_after_dropping key.now table.old.deck) table.old table.new
+            result }
+        ensures noted { calls.IsEditRecorded self.old self.new table.old.deck table.new.deck result }
     {
         splices_are_undone();
         stack::make_room(&mut self.done)?;
@@ -88,8 +89,9 @@ impl History {
     ) -> Result<(), DeckFault>
         requires { IsHistoryOf self.old table.old.deck }
         ensures follows { IsHistoryOf self.new table.new.deck }
-        ensures edit { edit.IsEditOf (Ok (deck_edit.after_switch settings table.old.deck)) table.old table.new result }
-        ensures noted { calls.IsNoted self.old self.new table.old.deck table.new.deck result }
+        ensures edit { edit.IsLiveEditOf (Ok (deck_edit.deck_after_switching settings table.old.deck)) table.old
+            table.new result }
+        ensures noted { calls.IsEditRecorded self.old self.new table.old.deck table.new.deck result }
     {
         stack::make_room(&mut self.done)?;
         table.deck().lines_closed();
@@ -115,18 +117,18 @@ impl History {
         requires { IsHistoryOf self.old table.old.deck }
         ensures follows { IsHistoryOf self.new table.new.deck }
         ensures told { (m : FileMap) → F.files files.old ≡ Some m
-            → edit.IsAppendOf (loading.after_append m name.now table.old.deck) table.new result }
-        ensures ok { OnOk result (IsAcceptedEdit table.old table.new) }
+            → edit.IsLiveAppendOf (loading.deck_after_appending m name.now table.old.deck) table.new result }
+        ensures ok { OnOk result (IsAcceptedLiveEdit table.old table.new) }
         ensures settings { table.new.deck.settings ≡ table.old.deck.settings }
         ensures err { OnErr result (table.new ≡ table.old) }
-        ensures answers { IfErr result (λ fault. loading.is_load_fault fault ≡ true) }
+        ensures answers { IfErr result (λ fault. loading.is_deck_load_fault fault ≡ true) }
         ensures kept { F.files files.new ≡ F.files files.old }
         ensures stores { F.store_faults files.new ≡ F.store_faults files.old }
         ensures loads { IsLoad OutOfMemory (IsTranscript (F.files files.old) F.is_fetch files.old files.new)
-            (loading.load_of_name name.now (loading.lines_alone table.old.deck.lines))
-            (λ _. loading.excerpt_of table.new.deck) result }
-        ensures counted { F.faults files.new ≡ loading.fetch_faults_after (F.faults files.old) result }
-        ensures noted { calls.IsNoted self.old self.new table.old.deck table.new.deck result }
+            (loading.deck_load_of_name name.now (loading.deck_excerpt_of_lines table.old.deck.lines))
+            (λ _. loading.excerpt_of_deck table.new.deck) result }
+        ensures counted { F.faults files.new ≡ loading.fetch_faults_after_deck_load (F.faults files.old) result }
+        ensures noted { calls.IsEditRecorded self.old self.new table.old.deck table.new.deck result }
     {
         appends_keep_lines();
         stack::make_room(&mut self.done)?;

@@ -26,10 +26,10 @@ impl History {
     ) -> Result<(), DeckFault>
         requires { IsHistoryOf self.old table.old.deck }
         ensures follows { IsHistoryOf self.new table.new.deck }
-        ensures edit { edit.IsEditOf (Ok (deck_edit.after_switch
-            (changes.with_variable table.old.deck.settings name.now value.now) table.old.deck))
+        ensures edit { edit.IsLiveEditOf (Ok (deck_edit.deck_after_switching
+            (changes.settings_with_variable table.old.deck.settings name.now value.now) table.old.deck))
             table.old table.new result }
-        ensures noted { calls.IsNoted self.old self.new table.old.deck table.new.deck result }
+        ensures noted { calls.IsEditRecorded self.old self.new table.old.deck table.new.deck result }
     {
         stack::make_room(&mut self.done)?;
         table.deck().lines_closed();
@@ -50,9 +50,10 @@ impl History {
     ) -> Result<(), DeckFault>
         requires { IsHistoryOf self.old table.old.deck }
         ensures follows { IsHistoryOf self.new table.new.deck }
-        ensures edit { edit.IsEditOf (Ok (deck_edit.after_switch
-            (changes.with_locale table.old.deck.settings locale.now) table.old.deck)) table.old table.new result }
-        ensures noted { calls.IsNoted self.old self.new table.old.deck table.new.deck result }
+        ensures edit { edit.IsLiveEditOf (Ok (deck_edit.deck_after_switching
+            (changes.settings_with_locale table.old.deck.settings locale.now) table.old.deck)) table.old table.new
+            result }
+        ensures noted { calls.IsEditRecorded self.old self.new table.old.deck table.new.deck result }
     {
         stack::make_room(&mut self.done)?;
         table.deck().lines_closed();

@@ -1,6 +1,6 @@
 //! Applying steps of one setting to a live table.
 
-ghost use Rattle.edit_history.specs.StepEffects.{IsStepped};
+ghost use Rattle.edit_history.specs.StepEffects.{IsUndoStepMade};
 ghost use Rattle.edit_history.specs.declared.step.Step.TheVariants as step;
 
 use crate::named_value::NamedValue;
@@ -12,7 +12,7 @@ use units_io::Text;
 
 /// Gives a variable a value.
 pub fn set(alloc: Global, table: &mut LiveTable, pair: NamedValue) -> Result<Step, Step>
-    ensures { IsStepped (step.Set pair) table.old table.new result }
+    ensures { IsUndoStepMade (step.Set pair) table.old table.new result }
 {
     table.deck().lines_closed();
     let Ok(back) = step_before_set(alloc, table.deck().settings(), pair.name(), pair.value()) else {
@@ -26,7 +26,7 @@ pub fn set(alloc: Global, table: &mut LiveTable, pair: NamedValue) -> Result<Ste
 
 /// Removes the last variable.
 pub fn unset_last(alloc: Global, table: &mut LiveTable) -> Result<Step, Step>
-    ensures { IsStepped step.UnsetLast table.old table.new result }
+    ensures { IsUndoStepMade step.UnsetLast table.old table.new result }
 {
     table.deck().lines_closed();
     let Ok(back) = step_before_unset(alloc, table.deck().settings()) else {
@@ -40,7 +40,7 @@ pub fn unset_last(alloc: Global, table: &mut LiveTable) -> Result<Step, Step>
 
 /// Puts another locale in force.
 pub fn set_locale(alloc: Global, table: &mut LiveTable, locale: Text) -> Result<Step, Step>
-    ensures { IsStepped (step.Locale locale) table.old table.new result }
+    ensures { IsUndoStepMade (step.Locale locale) table.old table.new result }
 {
     table.deck().lines_closed();
     let Ok(back) = step_before_locale(alloc, table.deck().settings(), locale.as_bytes()) else {
@@ -54,7 +54,7 @@ pub fn set_locale(alloc: Global, table: &mut LiveTable, locale: Text) -> Result<
 
 /// Changes nothing: puts the current locale in force again.
 pub fn change_nothing(alloc: Global, table: &mut LiveTable) -> Result<Step, Step>
-    ensures { IsStepped step.Nothing table.old table.new result }
+    ensures { IsUndoStepMade step.Nothing table.old table.new result }
 {
     table.deck().lines_closed();
     let Ok(locale) = table.deck().settings().locale.copy(alloc) else {

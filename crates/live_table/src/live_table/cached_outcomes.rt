@@ -3,7 +3,7 @@
 ghost use Rattle.std.specs.Prelude.{◌≡◌, ◌<◌, IfOk, Some, length, slice_get};
 ghost use Rattle.std.specs.FinMap as map_of;
 ghost use Rattle.std.specs.Option.{option_copied};
-ghost use Rattle.deck.specs.Tables.{table};
+ghost use Rattle.deck.specs.Tables.{table_of_deck};
 ghost use Rattle.table_names.specs.Meanings.{outcome};
 ghost use Rattle.tree_eval.specs.declared.outcome.Outcome.{Outcome as AnyOutcome};
 
@@ -20,7 +20,7 @@ impl LiveTable {
     pub fn cached_outcome(&self, alloc: Global, key: &Key) -> Result<Option<&Outcome>, AllocError>
         ensures cached { IfOk result (λ cached. option_copied cached ≡ map_of.get self.now.kept_outcomes key.now) }
         ensures right { IfOk result (λ cached. (o : AnyOutcome) → option_copied cached ≡ Some o
-            → o ≡ outcome (table self.now.deck) key.now) }
+            → o ≡ outcome (table_of_deck self.now.deck) key.now) }
     {
         match self.nodes.keys.find(alloc, key.kind, key.name.as_bytes())? {
             Some(n) => Ok(outcome_at(&self.nodes, n)),

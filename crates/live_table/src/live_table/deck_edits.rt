@@ -2,14 +2,14 @@
 
 ghost use Rattle.std.specs.Prelude.{◌≡◌, Some, Ok, true, IfErr, OnOk, OnErr};
 ghost use Rattle.units_io.specs.FileMap.{FileMap};
-ghost use Rattle.def_lines.specs.Blanks.{trim_of};
+ghost use Rattle.def_lines.specs.Blanks.{trimmed_of_blanks};
 ghost use Rattle.deck_lines.specs.Transcripts.{IsLoad, IsTranscript};
 ghost use Rattle.deck.specs.Edits as deck_edit;
 ghost use Rattle.deck.specs.FileLoads as loading;
-ghost use Rattle.deck.specs.Splices.{CanSplice};
-ghost use Rattle.deck.specs.LineRemoval.{CanUndefine};
+ghost use Rattle.deck.specs.Splices.{CanSpliceDeck};
+ghost use Rattle.deck.specs.LineRemoval.{CanUndefineDeckLine};
 ghost use Rattle.deck.specs.declared.fault.DeckFault.TheVariants.{OutOfMemory};
-ghost use Rattle.live_table.specs.Calls.{IsAcceptedEdit};
+ghost use Rattle.live_table.specs.Calls.{IsAcceptedLiveEdit};
 ghost use Rattle.live_table.specs.Edits as edit;
 
 use super::LiveTable;
@@ -24,7 +24,8 @@ impl LiveTable {
     /// Appends a line that defines a key to the deck, as `Deck::define`, and forgets the outcomes that this affects. On
     /// failure, lack of memory included, nothing changes.
     pub fn define(&mut self, alloc: Global, line: &[u8]) -> Result<(), DeckFault>
-        ensures { edit.IsEditOf (deck_edit.after_define (trim_of line.now) self.old.deck) self.old self.new result }
+        ensures { edit.IsLiveEditOf (deck_edit.deck_after_defining (trimmed_of_blanks line.now) self.old.deck) self.old
+            self.new result }
     {
         match self.define_shadowing(alloc, line) {
             Ok(_) => Ok(()),
@@ -38,8 +39,8 @@ impl LiveTable {
         alloc: Global,
         line: &[u8],
     ) -> Result<Option<usize>, DeckFault>
-        ensures { edit.IsTableDefinedOver (deck_edit.after_define (trim_of line.now) self.old.deck) (trim_of line.now)
-            self.old self.new result }
+        ensures { edit.IsLiveTableDefinedOver (deck_edit.deck_after_defining (trimmed_of_blanks line.now) self.old.deck)
+            (trimmed_of_blanks line.now) self.old self.new result }
     {
         link_waiting(alloc, &self.deck, &self.nodes, &mut self.edges)?;
         let (keys, covered) = self.deck.define_shadowing(alloc, line)?;
@@ -57,8 +58,8 @@ impl LiveTable {
     /// Removes the last line, which defines a key, as `Deck::undefine`, forgets the outcomes that this affects, and
     /// returns the text of the line. The only error is lack of memory, which changes nothing.
     pub fn undefine(&mut self, alloc: Global, uncovered: Option<usize>) -> Result<Text, AllocError>
-        requires { CanUndefine uncovered self.old.deck }
-        ensures { edit.IsUndefined self.old self.new result }
+        requires { CanUndefineDeckLine uncovered self.old.deck }
+        ensures { edit.IsLiveLineUndefined self.old self.new result }
     {
         link_waiting(alloc, &self.deck, &self.nodes, &mut self.edges)?;
         let (keys, text) = self.deck.undefine(alloc, uncovered)?;
@@ -76,7 +77,7 @@ impl LiveTable {
     /// Removes the last active line of a key, as `Deck::drop_last`, and forgets the outcomes that this affects. On
     /// failure, lack of memory included, nothing changes.
     pub fn drop_last(&mut self, alloc: Global, key: &Key) -> Result<(), DeckFault>
-        ensures { edit.IsEditOf (deck_edit.after_drop key.now self.old.deck) self.old self.new result }
+        ensures { edit.IsLiveEditOf (deck_edit.deck_after_dropping key.now self.old.deck) self.old self.new result }
     {
         link_waiting(alloc, &self.deck, &self.nodes, &mut self.edges)?;
         let keys = self.deck.drop_last(alloc, key)?;
@@ -94,7 +95,8 @@ impl LiveTable {
     /// Puts other settings in force, as `Deck::switch`, and forgets the outcomes that this affects. The only error is
     /// lack of memory, which changes nothing.
     pub fn switch(&mut self, alloc: Global, settings: Settings) -> Result<(), DeckFault>
-        ensures { edit.IsEditOf (Ok (deck_edit.after_switch settings self.old.deck)) self.old self.new result }
+        ensures { edit.IsLiveEditOf (Ok (deck_edit.deck_after_switching settings self.old.deck)) self.old self.new
+            result }
     {
         link_waiting(alloc, &self.deck, &self.nodes, &mut self.edges)?;
         let keys = self.deck.switch(alloc, settings)?;
@@ -118,17 +120,17 @@ impl LiveTable {
         name: &[u8],
     ) -> Result<(), DeckFault>
         ensures told { (m : FileMap) → F.files files.old ≡ Some m
-            → edit.IsAppendOf (loading.after_append m name.now self.old.deck) self.new result }
-        ensures ok { OnOk result (IsAcceptedEdit self.old self.new) }
+            → edit.IsLiveAppendOf (loading.deck_after_appending m name.now self.old.deck) self.new result }
+        ensures ok { OnOk result (IsAcceptedLiveEdit self.old self.new) }
         ensures settings { self.new.deck.settings ≡ self.old.deck.settings }
         ensures err { OnErr result (self.new ≡ self.old) }
-        ensures answers { IfErr result (λ fault. loading.is_load_fault fault ≡ true) }
+        ensures answers { IfErr result (λ fault. loading.is_deck_load_fault fault ≡ true) }
         ensures kept { F.files files.new ≡ F.files files.old }
         ensures stores { F.store_faults files.new ≡ F.store_faults files.old }
         ensures loads { IsLoad OutOfMemory (IsTranscript (F.files files.old) F.is_fetch files.old files.new)
-            (loading.load_of_name name.now (loading.lines_alone self.old.deck.lines))
-            (λ _. loading.excerpt_of self.new.deck) result }
-        ensures counted { F.faults files.new ≡ loading.fetch_faults_after (F.faults files.old) result }
+            (loading.deck_load_of_name name.now (loading.deck_excerpt_of_lines self.old.deck.lines))
+            (λ _. loading.excerpt_of_deck self.new.deck) result }
+        ensures counted { F.faults files.new ≡ loading.fetch_faults_after_deck_load (F.faults files.old) result }
     {
         link_waiting(alloc, &self.deck, &self.nodes, &mut self.edges)?;
         let keys = self.deck.append(alloc, files, name)?;
@@ -146,8 +148,8 @@ impl LiveTable {
     /// Replaces some lines by others, as `Deck::splice`, forgets the outcomes that this affects, and returns the splice
     /// that undoes the change. The only error is lack of memory, which hands the splice back and changes nothing.
     pub fn splice(&mut self, alloc: Global, change: Splice) -> Result<Splice, (Splice, AllocError)>
-        requires { CanSplice change self.old.deck }
-        ensures { edit.IsSpliceOf change self.old self.new result }
+        requires { CanSpliceDeck change self.old.deck }
+        ensures { edit.IsLiveSpliceOf change self.old self.new result }
     {
         if let Err(fault) = link_waiting(alloc, &self.deck, &self.nodes, &mut self.edges) {
             return Err((change, fault));

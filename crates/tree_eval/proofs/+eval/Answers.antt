@@ -1,7 +1,7 @@
 use Rattle.std.proofs.Common.{rules, arith, Ok, ap, sym, ◌∙◌}
 use Rattle.std.specs.Option.{option_copied}
 use Rattle.std.proofs.lemmas.Result.{err_from_is_err_and}
-use Rattle.def_entry.specs.Views.{what_view}
+use Rattle.def_entry.specs.Views.{entry_definition_view}
 use Rattle.expr_tree.specs.Syntax as tree
 use Rattle.expr_tree.specs.Trees.{syntax}
 use Rattle.tree_eval.specs.declared.direction.Direction.TheVariants.{Forward, Inverse}
@@ -12,7 +12,7 @@ use Rattle.tree_eval.proofs.Chains.{begins, end_place, end_worth, first_fault, f
 use Rattle.tree_eval.proofs.Chains.{member_fault, member_lighter, member_stand}
 use Rattle.tree_eval.proofs.MemberChains.{juxtaposed_is, product_is, sum_is}
 use Rattle.tree_eval.proofs.Multiples.{multiple_gives, multiple_place, multiple_usable, multiple_within}
-use Rattle.tree_eval.proofs.Targets.{alias_target}
+use Rattle.tree_eval.proofs.Targets.{alias_eval_word_is_callable}
 use Rattle.tree_eval.proofs.Uses.{use_gives, use_operand, use_within}
 use Rattle.tree_eval.proofs.Words.{behind_fault, both_give, operand_fault, taken_give, word_fault}
 use Rattle.tree_eval.proofs.+eval.Goals as goal
@@ -284,6 +284,7 @@ scope::Scope::with_member-returns-in-Word-clause-worth g t c =
 
 pub function::take-target_of-requires-clause-word : goal.function::take-target_of-requires-clause-word
 function::take-target_of-requires-clause-word g t c =
-    alias_target (g.E.Env.words c.args.env.now) (g.E.Env.means c.args.env.now) c.args.id
+    alias_eval_word_is_callable (g.E.Env.words c.args.env.now) (g.E.Env.means c.args.env.now) c.args.id
     (g.E.Env.callee c.args.env.now c.args.id)
-    (what_view c.function.result.now) c.in-Alias.field-0 c.function.ensures (ap what_view c.in-Alias.is)
+    (entry_definition_view c.function.result.now) c.in-Alias.field-0 c.function.ensures
+    (ap entry_definition_view c.in-Alias.is)

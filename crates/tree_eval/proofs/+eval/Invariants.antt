@@ -1,9 +1,9 @@
 use Rattle.std.proofs.Common.{◌+◌, ◌*◌, map, option_map}
 use Rattle.std.specs.Option.{option_copied}
-use Rattle.expr_tree.specs.Trees.{syntax, trees_of}
-use Rattle.tree_eval.specs.Answers.{amount_in}
+use Rattle.expr_tree.specs.Trees.{syntax, syntax_of_trees}
+use Rattle.tree_eval.specs.Answers.{amount_of_held_value}
 use Rattle.tree_eval.specs.Expansion.{expand, expand_if}
-use Rattle.tree_eval.specs.Operands.{by_side, chain, operands_of}
+use Rattle.tree_eval.specs.Operands.{chain, operand_by_side, operands_with_steps}
 use Rattle.tree_eval.proofs.Chains.{IsRunning}
 use Rattle.tree_eval.proofs.Weight.{weight, weight_callable, weight_given, weight_told}
 use Rattle.tree_eval.proofs.+eval.Given as goal
@@ -36,10 +36,11 @@ decreases-scope::put_taken g l = 8 * weight_callable (g.E.Env.callee l.env.now l
 
 abbrev pub decreases-scope::Scope::evaluate_juxtaposition : goal.decreases-scope::Scope::evaluate_juxtaposition
 decreases-scope::Scope::evaluate_juxtaposition g l =
-    8 * weight (chain (g.E.Env.means l.self.now.env.now) (map by_side (trees_of l.trees.now))) + 1
+    8 * weight (chain (g.E.Env.means l.self.now.env.now) (map operand_by_side (syntax_of_trees l.trees.now))) + 1
 
 abbrev pub decreases-scope::Scope::chain : goal.decreases-scope::Scope::chain
-decreases-scope::Scope::chain g l = 8 * weight (chain (g.E.Env.means l.self.now.env.now) (operands_of l.operands))
+decreases-scope::Scope::chain g l =
+    8 * weight (chain (g.E.Env.means l.self.now.env.now) (operands_with_steps l.operands))
 
 abbrev pub decreases-scope::Scope::with_member : goal.decreases-scope::Scope::with_member
 decreases-scope::Scope::with_member g l =
@@ -71,5 +72,5 @@ decreases-function::check_end g l =
 abbrev pub invariant-scope::Scope::chain-loop-i : goal.invariant-scope::Scope::chain-loop-i
 invariant-scope::Scope::chain-loop-i g l =
     IsRunning (g.E.Env.means l.self.env.now) (g.E.Env.words l.self.env.now l.self.holder) l.fn.place
-    (operands_of l.operands)
-    (option_copied l.self.arg) l.i (amount_in l.held) l.place
+    (operands_with_steps l.operands)
+    (option_copied l.self.arg) l.i (amount_of_held_value l.held) l.place

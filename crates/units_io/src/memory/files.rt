@@ -1,10 +1,10 @@
 //! Files in memory.
 ghost use Rattle.std.specs.Prelude.{◌≡◌, ◌≤◌, ◌↔◌, [], length, IfOk, OnOk, OnErr, Some, Contains, IsErrOf, ⊤};
-ghost use Rattle.units_io.specs.Faults.{next_count};
-ghost use Rattle.units_io.specs.Memory.{KeepsFetches, KeepsStores};
-ghost use Rattle.units_io.specs.FileMap.{with_file, no_files, longest_file};
-ghost use Rattle.units_io.specs.FetchResults.{IsFetched, FailsWithCause, faults_after_fetch};
-ghost use Rattle.units_io.specs.StoreResults.{IsStored, StoreHasCause, faults_after_store};
+ghost use Rattle.units_io.specs.Faults.{next_io_count};
+ghost use Rattle.units_io.specs.Memory.{FetchKeepsStores, StoreKeepsFetches};
+ghost use Rattle.units_io.specs.FileMap.{with_file, no_files_in_map, longest_file};
+ghost use Rattle.units_io.specs.FetchResults.{IsFileFetched, FetchFailsWithCause, faults_after_fetch};
+ghost use Rattle.units_io.specs.StoreResults.{IsFileStored, StoreHasCause, faults_after_store};
 
 use super::table::FileTable;
 use crate::files::{FetchFault, Files, LONGEST_FILE, StoreFault};
@@ -25,11 +25,11 @@ pub struct MemFiles {
 }
 
 impl Model for MemFiles {
-    ghost use Rattle.units_io.specs.Memory.{FilesState, files_code};
+    ghost use Rattle.units_io.specs.Memory.{FilesState, memory_files_code};
 
     ghost Value = { FilesState };
 
-    ghost coded = { files_code };
+    ghost coded = { memory_files_code };
 
     ghost view = { λ s. record {
       files = s.table;
@@ -47,7 +47,7 @@ impl MemFiles {
     /// store fails.
     pub fn new(alloc: Global, fails: &[u64]) -> Result<MemFiles, AllocError>
         ensures { IfOk result (λ s. s ≡ record {
-          files = no_files;
+          files = no_files_in_map;
           fails = fails.now;
           calls = 0;
           faults = 0;
@@ -98,16 +98,16 @@ impl Files for MemFiles {
     ghost is_fetch = { λ _ _ _ _. ⊤ };
 
     fn fetch(&mut self, alloc: Global, name: &[u8]) -> Result<Text, FetchFault>
-        ensures told { IsFetched self.old.files name.now result }
+        ensures told { IsFileFetched self.old.files name.now result }
         ensures within { IfOk result (λ text. length text ≤ longest_file) }
         ensures kept { self.new.files ≡ self.old.files }
-        ensures cause { FailsWithCause self.old.faults self.new.faults result }
+        ensures cause { FetchFailsWithCause self.old.faults self.new.faults result }
         ensures stores { self.new.store_faults ≡ self.old.store_faults }
         ensures listed { IsErrOf result FetchFault.Failed
-            ↔ Contains self.old.fails (next_count self.old.calls) }
+            ↔ Contains self.old.fails (next_io_count self.old.calls) }
         ensures counted { self.new.faults ≡ faults_after_fetch self.old.faults result }
-        ensures calls { self.new.calls ≡ next_count self.old.calls }
-        ensures rest { KeepsStores self.old self.new }
+        ensures calls { self.new.calls ≡ next_io_count self.old.calls }
+        ensures rest { FetchKeepsStores self.old self.new }
     {
         self.calls = self.calls.saturating_add(1);
         if self.fails.contains(&self.calls) {
@@ -123,16 +123,16 @@ impl Files for MemFiles {
 
     fn store(&mut self, alloc: Global, name: &[u8], bytes: &[u8]) -> Result<(), StoreFault>
         requires { length bytes.now ≤ longest_file }
-        ensures told { IsStored (Some self.old.files) (Some self.new.files)
+        ensures told { IsFileStored (Some self.old.files) (Some self.new.files)
             name.now bytes.now result }
         ensures kept { OnErr result (self.new.files ≡ self.old.files) }
         ensures cause { StoreHasCause self.old.store_faults self.new.store_faults result }
         ensures fetches { self.new.faults ≡ self.old.faults }
         ensures listed { IsErrOf result StoreFault.Failed
-            ↔ Contains self.old.store_fails (next_count self.old.store_calls) }
+            ↔ Contains self.old.store_fails (next_io_count self.old.store_calls) }
         ensures counted { self.new.store_faults ≡ faults_after_store self.old.store_faults result }
-        ensures calls { self.new.store_calls ≡ next_count self.old.store_calls }
-        ensures rest { KeepsFetches self.old self.new }
+        ensures calls { self.new.store_calls ≡ next_io_count self.old.store_calls }
+        ensures rest { StoreKeepsFetches self.old self.new }
     {
         self.store_calls = self.store_calls.saturating_add(1);
         if self.store_fails.contains(&self.store_calls) {

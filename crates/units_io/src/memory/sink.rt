@@ -1,7 +1,7 @@
 //! A sink in memory.
 ghost use Rattle.std.specs.Prelude.{◌≡◌, ◌≤◌, ◌<◌, ◌-◌, ◌++◌, ◌↔◌, ◌⊎◌, [], length, take, min, IfOk, OnErr, IsErr};
 ghost use Rattle.std.specs.Prelude.{MatchResult, Some, Contains};
-ghost use Rattle.units_io.specs.Faults.{HasCause, next_count};
+ghost use Rattle.units_io.specs.Faults.{HasIoFailureCause, next_io_count};
 
 use crate::sink::Sink;
 use crate::source::Failed;
@@ -91,12 +91,12 @@ impl Sink for MemSink {
         ensures most { IfOk result (λ n. n ≡ min self.old.piece
             (min (length bytes.now) (self.old.room - length self.old.written_bytes))) }
         ensures kept { OnErr result (self.new.written_bytes ≡ self.old.written_bytes) }
-        ensures cause { HasCause self.old.faults self.new.faults result }
-        ensures listed { IsErr result ↔ (Contains self.old.fails (next_count self.old.calls)
+        ensures cause { HasIoFailureCause self.old.faults self.new.faults result }
+        ensures listed { IsErr result ↔ (Contains self.old.fails (next_io_count self.old.calls)
             ⊎ (self.old.room ≤ length self.old.written_bytes)) }
         ensures counted { MatchResult result (λ _. self.new.faults ≡ self.old.faults)
-            (λ _. self.new.faults ≡ next_count self.old.faults) }
-        ensures calls { self.new.calls ≡ next_count self.old.calls }
+            (λ _. self.new.faults ≡ next_io_count self.old.faults) }
+        ensures calls { self.new.calls ≡ next_io_count self.old.calls }
         ensures rest { (self.new.room ≡ self.old.room) × (self.new.piece ≡ self.old.piece)
             × (self.new.fails ≡ self.old.fails) }
     {

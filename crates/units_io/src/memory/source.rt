@@ -1,7 +1,7 @@
 //! A source in memory.
 ghost use Rattle.std.specs.Prelude.{◌≡◌, ◌≤◌, ◌<◌, ◌+◌, ◌-◌, ◌^◌, ◌++◌, ◌↔◌, [], length, take, min, IfOk, OnErr, IsErr};
 ghost use Rattle.std.specs.Prelude.{MatchResult, Some, Contains};
-ghost use Rattle.units_io.specs.Faults.{HasCause, next_count};
+ghost use Rattle.units_io.specs.Faults.{HasIoFailureCause, next_io_count};
 
 use crate::source::{Failed, Source};
 use std::alloc::{AllocError, Global};
@@ -88,11 +88,11 @@ impl Source for MemSource {
         ensures count { MatchResult result
             (λ n. self.new.taken_count ≡ min (self.old.taken_count + n) (2 ^ 64 - 1))
             (λ _. self.new.taken_count ≡ self.old.taken_count) }
-        ensures cause { HasCause self.old.faults self.new.faults result }
-        ensures listed { IsErr result ↔ Contains self.old.fails (next_count self.old.calls) }
+        ensures cause { HasIoFailureCause self.old.faults self.new.faults result }
+        ensures listed { IsErr result ↔ Contains self.old.fails (next_io_count self.old.calls) }
         ensures counted { MatchResult result (λ _. self.new.faults ≡ self.old.faults)
-            (λ _. self.new.faults ≡ next_count self.old.faults) }
-        ensures calls { self.new.calls ≡ next_count self.old.calls }
+            (λ _. self.new.faults ≡ next_io_count self.old.faults) }
+        ensures calls { self.new.calls ≡ next_io_count self.old.calls }
         ensures rest { (self.new.piece ≡ self.old.piece) × (self.new.fails ≡ self.old.fails) }
     {
         self.calls = self.calls.saturating_add(1);

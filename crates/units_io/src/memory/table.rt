@@ -1,7 +1,7 @@
 //! The bytes of each file, looked up by the bytes of its name.
 ghost use Rattle.std.specs.Prelude.{◌≡◌, OnOk, OnErr};
 ghost use Rattle.std.specs.Option.{option_copied};
-ghost use Rattle.units_io.specs.FileMap.{no_files, file_of, with_file};
+ghost use Rattle.units_io.specs.FileMap.{no_files_in_map, file_of_name, with_file};
 
 use crate::text::Text;
 use crate::vars::Vars;
@@ -15,18 +15,18 @@ pub(super) struct FileTable {
 }
 
 impl Model for FileTable {
-    ghost use Rattle.units_io.specs.FileMap.{FileMap, file_map_code, files_of};
+    ghost use Rattle.units_io.specs.FileMap.{FileMap, file_map_code, files_of_named_texts};
 
     ghost Value = { FileMap };
 
     ghost coded = { file_map_code };
 
-    ghost view = { λ t. files_of t.texts };
+    ghost view = { λ t. files_of_named_texts t.texts };
 }
 
 impl FileTable {
     pub(super) fn new(alloc: Global) -> FileTable
-        ensures { result ≡ no_files }
+        ensures { result ≡ no_files_in_map }
     {
         FileTable {
             texts: Vars::new(alloc),
@@ -34,7 +34,7 @@ impl FileTable {
     }
 
     pub(super) fn get(&self, name: &[u8]) -> Option<&Text>
-        ensures { option_copied result ≡ file_of self.now name.now }
+        ensures { option_copied result ≡ file_of_name self.now name.now }
     {
         self.texts.value(name)
     }

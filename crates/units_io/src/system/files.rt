@@ -2,7 +2,7 @@
 ghost use Rattle.std.specs.Prelude.{◌≡◌, ◌≤◌, length, IfOk, None, ⊤};
 ghost use Rattle.std.specs.Str.{IsUtf8};
 ghost use Rattle.units_io.specs.FileMap.{longest_file};
-ghost use Rattle.units_io.specs.FetchResults.{FailsWithCause, faults_after_fetch};
+ghost use Rattle.units_io.specs.FetchResults.{FetchFailsWithCause, faults_after_fetch};
 ghost use Rattle.units_io.specs.StoreResults.{StoreHasCause, faults_after_store};
 
 use super::file_read::read_file;
@@ -53,7 +53,7 @@ impl<H: std::rt::Files + Clone + Drop> Files for DirFiles<H> {
 
     fn fetch(&mut self, alloc: Global, name: &[u8]) -> Result<Text, FetchFault>
         ensures within { IfOk result (λ text. length text ≤ longest_file) }
-        ensures cause { FailsWithCause self.old.faults self.new.faults result }
+        ensures cause { FetchFailsWithCause self.old.faults self.new.faults result }
         ensures stores { self.new.store_faults ≡ self.old.store_faults }
         ensures counted { self.new.faults ≡ faults_after_fetch self.old.faults result }
         ensures bad_name { ¬ IsUtf8 name.now → result ≡ Err FetchFault.Absent }

@@ -1,6 +1,6 @@
 //! A std writer as a sink.
 ghost use Rattle.std.specs.Prelude.{◌≡◌, ◌≤◌, ◌<◌, ℕ, length, IfOk, MatchResult, None};
-ghost use Rattle.units_io.specs.Faults.{HasCause, next_count};
+ghost use Rattle.units_io.specs.Faults.{HasIoFailureCause, next_io_count};
 
 use crate::sink::Sink;
 use crate::source::Failed;
@@ -39,9 +39,9 @@ impl<W: Write + Drop> Sink for StdSink<W> {
         requires { 0 < length bytes.now }
         ensures some { IfOk result (λ n. 0 < n) }
         ensures within { IfOk result (λ n. n ≤ length bytes.now) }
-        ensures cause { HasCause self.old self.new result }
+        ensures cause { HasIoFailureCause self.old self.new result }
         ensures counted { MatchResult result (λ _. self.new ≡ self.old)
-            (λ _. self.new ≡ next_count self.old) }
+            (λ _. self.new ≡ next_io_count self.old) }
     {
         match write_some(&mut self.writer, bytes) {
             Ok(n) if n > 0 => Ok(n),

@@ -1,6 +1,6 @@
 //! A std reader as a source.
 ghost use Rattle.std.specs.Prelude.{◌≡◌, ◌≤◌, ◌<◌, ◌+◌, ◌-◌, ◌^◌, length, min, IfOk, MatchResult, None};
-ghost use Rattle.units_io.specs.Faults.{HasCause, next_count};
+ghost use Rattle.units_io.specs.Faults.{HasIoFailureCause, next_io_count};
 
 use crate::source::{Failed, Source};
 use std::io;
@@ -49,9 +49,9 @@ impl<R: Read + Drop> Source for StdSource<R> {
         ensures count { MatchResult result
             (λ n. self.new.taken_count ≡ min (self.old.taken_count + n) (2 ^ 64 - 1))
             (λ _. self.new.taken_count ≡ self.old.taken_count) }
-        ensures cause { HasCause self.old.faults self.new.faults result }
+        ensures cause { HasIoFailureCause self.old.faults self.new.faults result }
         ensures counted { MatchResult result (λ _. self.new.faults ≡ self.old.faults)
-            (λ _. self.new.faults ≡ next_count self.old.faults) }
+            (λ _. self.new.faults ≡ next_io_count self.old.faults) }
     {
         match read_some(&mut self.reader, buf) {
             Ok(n) => {

@@ -1,5 +1,5 @@
-use Rattle.column_convert.proofs.Again.{asked_again}
+use Rattle.column_convert.proofs.Again.{cell_queries_again_take_no_step}
 use Rattle.column_convert.proofs.laws.again_law.Goals as goal
 
 pub returns : goal.returns
-returns c = asked_again
+returns c = cell_queries_again_take_no_step

@@ -1,5 +1,5 @@
-use Rattle.column_convert.proofs.Rows.{rows_by_next}
+use Rattle.column_convert.proofs.Rows.{column_rows_law}
 use Rattle.column_convert.proofs.laws.rows_law.Goals as goal
 
 pub returns : goal.returns
-returns c = rows_by_next
+returns c = column_rows_law

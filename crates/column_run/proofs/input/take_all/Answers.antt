@@ -1,5 +1,6 @@
 use Rattle.std.proofs.Common.{◌++◌, ◌∙◌, List, ℕ, Some, inl, length, take, sym, ap, arith}
-use Rattle.session.proofs.Blocks.{loses_from_known, none_left, rose_since, took_enough}
+use Rattle.session.proofs.Blocks.{known_session_input_is_lost, no_session_input_is_left, session_count_rose_earlier}
+use Rattle.session.proofs.Blocks.{session_took_more_than_limit}
 use Rattle.column_run.proofs.Taking.{took_bytes}
 use Rattle.column_run.proofs.input.take_all.Goals as goal
 use Rattle.general_lemmas.proofs.Parts.{front_whole, rejoined, no_rest}
@@ -13,14 +14,14 @@ loop-src-init g c = record {
 }
 
 pub returns-in-Err-clause-read : goal.returns-in-Err-clause-read
-returns-in-Err-clause-read g c = λ is. rose_since _ _ _ c.loop-src.invariant.earlier
+returns-in-Err-clause-read g c = λ is. session_count_rose_earlier _ _ _ c.loop-src.invariant.earlier
     c.in-Err.ensures.cause.failure_counted
 
 pub returns-then-n-eq0-clause-told : goal.returns-then-n-eq0-clause-told
 returns-then-n-eq0-clause-told g c = λ input q.
     let p = c.loop-src.invariant.stands input q in
-    let lost = loses_from_known _ _ p.0 (take c.in-Ok.n c.take.new.buf) p.2 c.in-Ok.ensures.bytes in
-    let none = none_left _ p.0 p.2 (c.in-Ok.ensures.end c.if-n-eq0.true) in
+    let lost = known_session_input_is_lost _ _ p.0 (take c.in-Ok.n c.take.new.buf) p.2 c.in-Ok.ensures.bytes in
+    let none = no_session_input_is_left _ p.0 p.2 (c.in-Ok.ensures.end c.if-n-eq0.true) in
     (front_whole input c.loop-src.text.items p.0 p.1 none, lost.1 ∙ ap Some (no_rest _ _ _ lost.2 none))
 
 pub loop-src-preserved : goal.loop-src-preserved
@@ -33,7 +34,7 @@ loop-src-preserved g c =
           c.loop-src.invariant.counted c.in-Ok.ensures.count;
       stands = λ input q.
           let p = c.loop-src.invariant.stands input q in
-          let lost = loses_from_known _ _ p.0 (take c.in-Ok.n c.take.new.buf) p.2 c.in-Ok.ensures.bytes in (
+          let lost = known_session_input_is_lost _ _ p.0 (take c.in-Ok.n c.take.new.buf) p.2 c.in-Ok.ensures.bytes in (
             lost.0,
             sym (rejoined input c.loop-src.text.items p.0 (take c.in-Ok.n c.take.new.buf) lost.0 p.1 lost.2)
                 ∙ ap (λ (t : List ℕ). t ++ lost.0) (sym put.items),
@@ -43,4 +44,4 @@ loop-src-preserved g c =
 
 pub returns-clause-too_long : goal.returns-clause-too_long
 returns-clause-too_long g c = λ is.
-    took_enough (length c.loop-src.text.items) 16777216 _ _ c.loop-src.invariant.counted (omega arith)
+    session_took_more_than_limit (length c.loop-src.text.items) 16777216 _ _ c.loop-src.invariant.counted (omega arith)

@@ -1,12 +1,12 @@
 use Rattle.std.proofs.Common.{◌≡◌, ◌++◌, ◌≤◌, ◌<◌, ◌-◌, List, ℕ, Some, length}
-use Rattle.session.specs.BetweenPieces.{TookAtLeast}
+use Rattle.session.specs.BetweenPieces.{SessionTookAtLeast}
 use Rattle.column_run.proofs.input.take_all.Given as goal
 
 abbrev pub invariant-loop-src : goal.invariant-loop-src
 invariant-loop-src g l = record {
   room : (0 < length l.block) × (length l.block ≤ 65536);
   earlier : g.S.Source.faults l.initial.src ≤ g.S.Source.faults l.src;
-  counted : TookAtLeast (length l.text.items) (g.S.Source.taken l.initial.src) (g.S.Source.taken l.src);
+  counted : SessionTookAtLeast (length l.text.items) (g.S.Source.taken l.initial.src) (g.S.Source.taken l.src);
   stands : (input : List ℕ) → g.S.Source.left l.initial.src ≡ Some input →
       (rest : List ℕ) × (input ≡ l.text.items ++ rest) × (g.S.Source.left l.src ≡ Some rest);
 }

@@ -3,11 +3,11 @@ use Rattle.std.specs.Str.{is_utf8}
 use Rattle.clap.proofs.OnLiterals.{clap_on_literals}
 use Rattle.def_lines.specs.Lines.{line_content}
 use Rattle.command_line.specs.Fields.{command_line_of}
-use Rattle.command_line.specs.AcceptedWords.{are_parsed, are_taken}
+use Rattle.command_line.specs.AcceptedWords.{are_command_words_accepted, are_command_words_parsed}
 use Rattle.command_line.proofs.examples.refused_examples.Goals as goal
 
 pub returns : goal.returns
-unfolding clap_on_literals is_utf8 line_content command_line_of are_parsed are_taken
+unfolding clap_on_literals is_utf8 line_content command_line_of are_command_words_parsed are_command_words_accepted
 returns c = record {
   digits_zero = refl;
   digits_beyond = refl;

@@ -1,5 +1,5 @@
-use Rattle.deck.proofs.OneKeyList.{one_key_list}
+use Rattle.deck.proofs.OneKeyList.{deck_key_list_law}
 use Rattle.deck.proofs.laws.key_lists_are_one.Goals as goal
 
 pub returns : goal.returns
-returns c = one_key_list
+returns c = deck_key_list_law

@@ -1,5 +1,5 @@
-use Rattle.deck.proofs.OneKeyList.{are_keys}
+use Rattle.deck.proofs.OneKeyList.{deck_table_keys_law}
 use Rattle.deck.proofs.laws.table_keys_law.Goals as goal
 
 pub returns : goal.returns
-returns c = are_keys
+returns c = deck_table_keys_law

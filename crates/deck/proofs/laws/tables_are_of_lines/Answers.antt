@@ -1,5 +1,5 @@
-use Rattle.deck.proofs.TableLines.{of_lines}
+use Rattle.deck.proofs.TableLines.{deck_table_law}
 use Rattle.deck.proofs.laws.tables_are_of_lines.Goals as goal
 
 pub returns : goal.returns
-returns c = of_lines
+returns c = deck_table_law

@@ -1,5 +1,5 @@
-use Rattle.def_entry.proofs.OptionRuns.{any_order}
+use Rattle.def_entry.proofs.OptionRuns.{any_option_order}
 use Rattle.def_entry.proofs.laws.any_order_law.Goals as goal
 
 pub returns : goal.returns
-returns c = any_order
+returns c = any_option_order

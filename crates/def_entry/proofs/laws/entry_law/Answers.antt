@@ -1,5 +1,5 @@
-use Rattle.def_entry.proofs.WrittenEntries.{entries}
+use Rattle.def_entry.proofs.WrittenEntries.{entries_are_as_written}
 use Rattle.def_entry.proofs.laws.entry_law.Goals as goal
 
 pub returns : goal.returns
-returns c = entries
+returns c = entries_are_as_written

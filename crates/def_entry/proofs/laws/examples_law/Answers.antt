@@ -1,5 +1,5 @@
-use Rattle.def_entry.proofs.Examples.{examples}
+use Rattle.def_entry.proofs.Examples.{entry_examples}
 use Rattle.def_entry.proofs.laws.examples_law.Goals as goal
 
 pub returns : goal.returns
-returns c = examples
+returns c = entry_examples

@@ -1,5 +1,5 @@
-use Rattle.def_entry.proofs.WrittenPoints.{points_read}
+use Rattle.def_entry.proofs.WrittenPoints.{point_pairs_law}
 use Rattle.def_entry.proofs.laws.points_law.Goals as goal
 
 pub returns : goal.returns
-returns c = points_read
+returns c = point_pairs_law

@@ -1,18 +1,18 @@
 use Rattle.std.proofs.Common.{refl}
-use Rattle.def_lines.specs.Examples.{LinesLaw, KindsLaw, ListingsLaw}
-use Rattle.def_lines.specs.Kinds.{kind_of}
-use Rattle.def_lines.specs.Words.{words_of}
+use Rattle.def_lines.specs.Examples.{LogicalLinesLaw, DirectiveListingsLaw, LineKindsLaw}
+use Rattle.def_lines.specs.Kinds.{kind_of_line}
+use Rattle.def_lines.specs.Words.{words_between_blanks}
 use Rattle.def_lines.proofs.examples.examples_law.Goals as goal
 
-lines : LinesLaw
+lines : LogicalLinesLaw
 lines = refl
 
-kinds : KindsLaw
-unfolding kind_of
+kinds : LineKindsLaw
+unfolding kind_of_line
 kinds = refl
 
-listings : ListingsLaw
-unfolding words_of
+listings : DirectiveListingsLaw
+unfolding words_between_blanks
 listings = refl
 
 pub returns : goal.returns

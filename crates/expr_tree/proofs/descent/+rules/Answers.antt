@@ -2,8 +2,8 @@ use Rattle.std.proofs.Common.{◌≡◌, ◌<◌, ◌≤◌, ◌∷◌, true, fa
 use Rattle.std.proofs.Common.{Option, List, [], ◌++◌, refl, sym, ap, subst, ◌∙◌, arith, add-one}
 use Rattle.std.specs.Option.{option_copied}
 use Rattle.std.specs.declared.alloc.AllocError.{AllocError}
-use Rattle.expr_tree.specs.Front.{SumAt, PowerAt, ExponentAt, tokens_from}
-use Rattle.expr_tree.specs.TokenViews.{power_numeral}
+use Rattle.expr_tree.specs.Front.{SumTreeAt, PowerTreeAt, ExponentTreeAt, tokens_from}
+use Rattle.expr_tree.specs.TokenViews.{power_token_numeral}
 use Rattle.expr_tree.specs.Syntax as tree
 use Rattle.expr_tree.specs.Tokens.{Tilde}
 use Rattle.expr_tree.specs.Trees.{syntax}
@@ -11,24 +11,30 @@ use Rattle.expr_tree.specs.declared.operator.Scale.TheVariants.{Multiply}
 use Rattle.expr_tree.specs.declared.operator.Sign.TheVariants as signs
 use Rattle.expr_tree.specs.declared.token.Token.{Token}
 use Rattle.expr_tree.specs.declared.tree.Tree.{Tree}
-use Rattle.expr_tree.proofs.Fronts.{word_front, word_power_front, bar_front, numeral_front, call_front, inverse_front}
-use Rattle.expr_tree.proofs.Fronts.{root_front, group_front, bare_front, raised_front, exponent_front}
-use Rattle.expr_tree.proofs.Fronts.{signed_exponent_front, signed_front, sign_wants, caret_wants, closed_front}
-use Rattle.expr_tree.proofs.Stands.{stands_as, operand_has_token, rooted, barred, head_wanted, close_stands}
-use Rattle.expr_tree.proofs.Stands.{sign_stands}
-use Rattle.expr_tree.proofs.Stands.{scale_stands, caret_stands}
-use Rattle.expr_tree.proofs.Steps.{one_member, members_begun, next_member, all_members}
-use Rattle.expr_tree.proofs.Steps.{one_factor, factors_begun, next_factor, all_factors, factor_wants}
-use Rattle.expr_tree.proofs.Steps.{one_term, terms_begun, next_term, all_terms, term_wants}
-use Rattle.expr_tree.proofs.Views.{of_number, of_root, of_group, of_juxtaposed, of_product, of_sum}
+use Rattle.expr_tree.proofs.Fronts.{word_token_is_atom, word_power_token_is_atom, bar_tokens_are_atom}
+use Rattle.expr_tree.proofs.Fronts.{numeral_token_is_atom, call_tokens_are_atom, inverse_tokens_are_atom}
+use Rattle.expr_tree.proofs.Fronts.{root_tokens_are_atom, group_tokens_are_atom, bare_atom_tokens_are_power}
+use Rattle.expr_tree.proofs.Fronts.{raised_atom_tokens_are_power, power_tokens_are_exponent}
+use Rattle.expr_tree.proofs.Fronts.{signed_tokens_are_exponent, signed_tokens_are_juxtaposition}
+use Rattle.expr_tree.proofs.Fronts.{sign_token_wants_operand, caret_token_wants_operand, sum_before_close_is_in_parens}
+use Rattle.expr_tree.proofs.Stands.{read_token_at_place, operand_has_token, root_tokens_at_place, bar_tokens_at_place}
+use Rattle.expr_tree.proofs.Stands.{wanted_head_has_token, close_paren_at_place, sign_token_at_place}
+use Rattle.expr_tree.proofs.Stands.{scale_token_at_place, caret_token_at_place}
+use Rattle.expr_tree.proofs.Steps.{one_parsed_member, first_parsed_member, next_parsed_member, all_parsed_members}
+use Rattle.expr_tree.proofs.Steps.{one_parsed_factor, first_parsed_factor, next_parsed_factor, all_parsed_factors}
+use Rattle.expr_tree.proofs.Steps.{parsed_factor_wants_operand, one_parsed_term, first_parsed_term, next_parsed_term}
+use Rattle.expr_tree.proofs.Steps.{all_parsed_terms, parsed_term_wants_operand}
+use Rattle.expr_tree.proofs.Views.{syntax_of_number, syntax_of_root, syntax_of_group, syntax_of_juxtaposed}
+use Rattle.expr_tree.proofs.Views.{syntax_of_product, syntax_of_sum}
 use Rattle.expr_tree.proofs.descent.+rules.Goals as goal
 
 -- the result of a power, as the result of an exponent
 exponent_returns : (b : Option (List ℕ)) (k : ℕ) (ts : List Token) (at : ℕ) (r : Result (Tree × ℕ) AllocError)
-    → IfOk r (λ x. PowerAt b k (tokens_from ts at) (syntax x.0) (tokens_from ts x.1) × (at < x.1) × (x.1 ≤ length ts))
-    → IfOk r (λ x. ExponentAt b k (tokens_from ts at) (syntax x.0) (tokens_from ts x.1) × (at < x.1)
+    → IfOk r (λ x. PowerTreeAt b k (tokens_from ts at) (syntax x.0) (tokens_from ts x.1) × (at < x.1)
     × (x.1 ≤ length ts))
-exponent_returns b k ts at (Ok x) p = (exponent_front b k _ _ _ p.0, p.1, p.2)
+    → IfOk r (λ x. ExponentTreeAt b k (tokens_from ts at) (syntax x.0) (tokens_from ts x.1) × (at < x.1)
+    × (x.1 ≤ length ts))
+exponent_returns b k ts at (Ok x) p = (power_tokens_are_exponent b k _ _ _ p.0, p.1, p.2)
 exponent_returns b k ts at (Err e) p = p
 
 no_some : {A : Type 0} (o : Option A) → is_some o ≡ false → o ≡ None
@@ -41,16 +47,16 @@ not_none (Some x) h e = cc
 
 pub atom_at-closed_sum_at-requires-in-Root : goal.atom_at-closed_sum_at-requires-in-Root
 atom_at-closed_sum_at-requires-in-Root t c =
-    let r = rooted c.args.tokens.now c.args.at c.args.opened c.in-Root.kind _
+    let r = root_tokens_at_place c.args.tokens.now c.args.at c.args.opened c.in-Root.kind _
     (operand_has_token c.args.tokens.now c.args.at c.requires.begun) c.in-Root.is c.requires.fit in
     (omega (arith, r.within), (omega (arith, c.requires.deep), r.fit))
 
 pub atom_at-returns-in_ok-bar_tree-in-Some : goal.atom_at-returns-in_ok-bar_tree-in-Some
 atom_at-returns-in_ok-bar_tree-in-Some t c =
     let l = operand_has_token c.args.tokens.now c.args.at c.requires.begun in
-    let r = barred c.args.tokens.now c.args.at c.in-Numeral.n c.in-Some.denominator l
-    (stands_as c.args.tokens.now c.args.at _ _ l c.in-Numeral.is) c.in-Some.ensures in (
-      bar_front (option_copied c.args.binder) c.args.opened c.in-Numeral.n c.in-Some.denominator _ _ _ r.is
+    let r = bar_tokens_at_place c.args.tokens.now c.args.at c.in-Numeral.n c.in-Some.denominator l
+    (read_token_at_place c.args.tokens.now c.args.at _ _ l c.in-Numeral.is) c.in-Some.ensures in (
+      bar_tokens_are_atom (option_copied c.args.binder) c.args.opened c.in-Numeral.n c.in-Some.denominator _ _ _ r.is
           c.requires.fit c.in_ok-bar_tree-in-Some.ensures,
       omega arith,
       r.within,
@@ -59,9 +65,9 @@ atom_at-returns-in_ok-bar_tree-in-Some t c =
 pub atom_at-returns-in-None : goal.atom_at-returns-in-None
 atom_at-returns-in-None t c =
     let l = operand_has_token c.args.tokens.now c.args.at c.requires.begun in (
-      numeral_front (option_copied c.args.binder) c.args.opened c.in-Numeral.n _ _ _
-          (stands_as c.args.tokens.now c.args.at _ _ l c.in-Numeral.is) (sym c.in-None.ensures) c.requires.fit
-          (of_number c.in-Numeral.n),
+      numeral_token_is_atom (option_copied c.args.binder) c.args.opened c.in-Numeral.n _ _ _
+          (read_token_at_place c.args.tokens.now c.args.at _ _ l c.in-Numeral.is) (sym c.in-None.ensures) c.requires.fit
+          (syntax_of_number c.in-Numeral.n),
       omega arith,
       omega (arith, l),
     )
@@ -69,8 +75,9 @@ atom_at-returns-in-None t c =
 pub atom_at-returns-in_ok-word_tree-in-Word : goal.atom_at-returns-in_ok-word_tree-in-Word
 atom_at-returns-in_ok-word_tree-in-Word t c =
     let l = operand_has_token c.args.tokens.now c.args.at c.requires.begun in (
-      word_front (option_copied c.args.binder) c.args.opened c.in-Word.word.now _ _ _
-          (stands_as c.args.tokens.now c.args.at _ _ l c.in-Word.is) c.requires.fit c.in_ok-word_tree-in-Word.ensures,
+      word_token_is_atom (option_copied c.args.binder) c.args.opened c.in-Word.word.now _ _ _
+          (read_token_at_place c.args.tokens.now c.args.at _ _ l c.in-Word.is) c.requires.fit
+          c.in_ok-word_tree-in-Word.ensures,
       omega arith,
       omega (arith, l),
     )
@@ -78,21 +85,22 @@ atom_at-returns-in_ok-word_tree-in-Word t c =
 pub atom_at-returns-in_ok-power_tree-in-WordWithPower : goal.atom_at-returns-in_ok-power_tree-in-WordWithPower
 atom_at-returns-in_ok-power_tree-in-WordWithPower t c =
     let l = operand_has_token c.args.tokens.now c.args.at c.requires.begun in (
-      word_power_front (option_copied c.args.binder) c.args.opened c.in-WordWithPower.word.now
-          (power_numeral c.in-WordWithPower.digit) _ _ _ _
-          (stands_as c.args.tokens.now c.args.at _ _ l c.in-WordWithPower.is) c.requires.fit
+      word_power_token_is_atom (option_copied c.args.binder) c.args.opened c.in-WordWithPower.word.now
+          (power_token_numeral c.in-WordWithPower.digit) _ _ _ _
+          (read_token_at_place c.args.tokens.now c.args.at _ _ l c.in-WordWithPower.is) c.requires.fit
           c.in_ok-base-in-WordWithPower.ensures
           (c.in_ok-power_tree-in-WordWithPower.ensures
           ∙ ap (tree.Power (syntax c.in_ok-base-in-WordWithPower.base))
-          (of_number _ ∙ ap tree.Number c.numeral.ensures)),
+          (syntax_of_number _ ∙ ap tree.Number c.numeral.ensures)),
       omega arith,
       omega (arith, l),
     )
 
 pub atom_at-returns-in_ok-call_tree-in-Head : goal.atom_at-returns-in_ok-call_tree-in-Head
 atom_at-returns-in_ok-call_tree-in-Head t c = (
-  call_front (option_copied c.args.binder) c.args.opened c.in-Head.word.now _ _ _ _ _
-      (stands_as c.args.tokens.now c.args.at _ _ (operand_has_token c.args.tokens.now c.args.at c.requires.begun)
+  call_tokens_are_atom (option_copied c.args.binder) c.args.opened c.in-Head.word.now _ _ _ _ _
+      (read_token_at_place c.args.tokens.now c.args.at _ _
+      (operand_has_token c.args.tokens.now c.args.at c.requires.begun)
       c.in-Head.is)
       c.in_ok-operand-in-Head.ensures.0 c.in_ok-call_tree-in-Head.ensures,
   omega (arith, c.in_ok-operand-in-Head.ensures.1),
@@ -101,11 +109,11 @@ atom_at-returns-in_ok-call_tree-in-Head t c = (
 
 pub atom_at-returns-in_ok-new-in-Root : goal.atom_at-returns-in_ok-new-in-Root
 atom_at-returns-in_ok-new-in-Root t c =
-    let r = rooted c.args.tokens.now c.args.at c.args.opened c.in-Root.kind _
+    let r = root_tokens_at_place c.args.tokens.now c.args.at c.args.opened c.in-Root.kind _
     (operand_has_token c.args.tokens.now c.args.at c.requires.begun) c.in-Root.is c.requires.fit in (
-      root_front (option_copied c.args.binder) c.args.opened c.in-Root.kind _ _ _ _ _ r.is
+      root_tokens_are_atom (option_copied c.args.binder) c.args.opened c.in-Root.kind _ _ _ _ _ r.is
           c.in_ok-radicand-in-Root.ensures.0
-          (of_root c.in-Root.kind c.in_ok-new-in-Root.field-0
+          (syntax_of_root c.in-Root.kind c.in_ok-new-in-Root.field-0
           ∙ ap (λ x. tree.Root c.in-Root.kind (syntax x)) c.in_ok-new-in-Root.ensures.ok),
       omega (arith, c.in_ok-radicand-in-Root.ensures.1),
       c.in_ok-radicand-in-Root.ensures.2,
@@ -113,37 +121,38 @@ atom_at-returns-in_ok-new-in-Root t c =
 
 pub atom_at-returns-in_ok-new-in-Open : goal.atom_at-returns-in_ok-new-in-Open
 atom_at-returns-in_ok-new-in-Open t c = (
-  group_front (option_copied c.args.binder) c.args.opened _ _ _ _ _
-      (stands_as c.args.tokens.now c.args.at _ _ (operand_has_token c.args.tokens.now c.args.at c.requires.begun)
+  group_tokens_are_atom (option_copied c.args.binder) c.args.opened _ _ _ _ _
+      (read_token_at_place c.args.tokens.now c.args.at _ _
+      (operand_has_token c.args.tokens.now c.args.at c.requires.begun)
       c.in-Open.is)
       c.in_ok-sum-in-Open.ensures.0
-      (of_group c.in_ok-new-in-Open.field-0 ∙ ap (λ x. tree.Group (syntax x)) c.in_ok-new-in-Open.ensures.ok),
+      (syntax_of_group c.in_ok-new-in-Open.field-0 ∙ ap (λ x. tree.Group (syntax x)) c.in_ok-new-in-Open.ensures.ok),
   omega (arith, c.in_ok-sum-in-Open.ensures.1),
   c.in_ok-sum-in-Open.ensures.2,
 )
 
 pub closed_sum_at-returns : goal.closed_sum_at-returns
 closed_sum_at-returns t c =
-    let p = subst (λ i. SumAt (option_copied c.args.binder) i (tokens_from c.args.tokens.now c.args.at)
+    let p = subst (λ i. SumTreeAt (option_copied c.args.binder) i (tokens_from c.args.tokens.now c.args.at)
     (syntax c.in_ok-sum.sum) (tokens_from c.args.tokens.now c.in_ok-sum.next))
     (add-one c.args.opened) c.in_ok-sum.ensures.0 in
-    let q = close_stands c.args.tokens.now c.in_ok-sum.next c.args.opened p.stop p.fit in (
-      closed_front (option_copied c.args.binder) c.args.opened _ _ _ _ p q.0.is q.1,
+    let q = close_paren_at_place c.args.tokens.now c.in_ok-sum.next c.args.opened p.stop p.fit in (
+      sum_before_close_is_in_parens (option_copied c.args.binder) c.args.opened _ _ _ _ p q.0.is q.1,
       omega (arith, c.in_ok-sum.ensures.1),
       omega (arith, q.0.within),
     )
 
 pub exponent_at-exponent_at-requires : goal.exponent_at-exponent_at-requires
 exponent_at-exponent_at-requires t c =
-    let p = sign_stands c.args.tokens.now c.args.at c.in-Some.sign (sym c.in-Some.ensures) in (
+    let p = sign_token_at_place c.args.tokens.now c.args.at c.in-Some.sign (sym c.in-Some.ensures) in (
       omega (arith, p.within),
-      (omega (arith, c.requires.deep), sign_wants c.args.opened c.in-Some.sign _ _ p.is c.requires.fit),
+      (omega (arith, c.requires.deep), sign_token_wants_operand c.args.opened c.in-Some.sign _ _ p.is c.requires.fit),
     )
 
 pub exponent_at-returns-in_ok-signed_tree-in-Some : goal.exponent_at-returns-in_ok-signed_tree-in-Some
 exponent_at-returns-in_ok-signed_tree-in-Some t c =
-    let p = sign_stands c.args.tokens.now c.args.at c.in-Some.sign (sym c.in-Some.ensures) in (
-      signed_exponent_front (option_copied c.args.binder) c.args.opened c.in-Some.sign _ _ _ _ _ p.is
+    let p = sign_token_at_place c.args.tokens.now c.args.at c.in-Some.sign (sym c.in-Some.ensures) in (
+      signed_tokens_are_exponent (option_copied c.args.binder) c.args.opened c.in-Some.sign _ _ _ _ _ p.is
           c.in_ok-operand-in-Some.ensures.0 c.in_ok-signed_tree-in-Some.ensures,
       omega (arith, c.in_ok-operand-in-Some.ensures.1),
       c.in_ok-operand-in-Some.ensures.2,
@@ -156,9 +165,10 @@ exponent_at-returns-in-None t c =
 
 pub inverse_at-returns : goal.inverse_at-returns
 inverse_at-returns t c = (
-  inverse_front (option_copied c.args.binder) c.args.opened c.in-Head.word.now _ _ _ _ _
+  inverse_tokens_are_atom (option_copied c.args.binder) c.args.opened c.in-Head.word.now _ _ _ _ _
       (ap (λ y. Tilde ∷ y)
-      (stands_as c.args.tokens.now c.args.at _ _ (head_wanted c.args.tokens.now c.args.at c.args.opened c.requires.fit)
+      (read_token_at_place c.args.tokens.now c.args.at _ _
+      (wanted_head_has_token c.args.tokens.now c.args.at c.args.opened c.requires.fit)
       c.in-Head.is)) c.in_ok-operand-in-Head.ensures.0 c.in_ok-inverse_tree-in-Head.ensures,
   omega (arith, c.in_ok-operand-in-Head.ensures.1),
   c.in_ok-operand-in-Head.ensures.2,
@@ -166,15 +176,15 @@ inverse_at-returns t c = (
 
 pub juxtaposition_at-juxtaposition_at-requires : goal.juxtaposition_at-juxtaposition_at-requires
 juxtaposition_at-juxtaposition_at-requires t c =
-    let p = sign_stands c.args.tokens.now c.args.at c.in-Some.sign (sym c.in-Some.ensures) in (
+    let p = sign_token_at_place c.args.tokens.now c.args.at c.in-Some.sign (sym c.in-Some.ensures) in (
       omega (arith, p.within),
-      (omega (arith, c.requires.deep), sign_wants c.args.opened c.in-Some.sign _ _ p.is c.requires.fit),
+      (omega (arith, c.requires.deep), sign_token_wants_operand c.args.opened c.in-Some.sign _ _ p.is c.requires.fit),
     )
 
 pub juxtaposition_at-returns-in_ok-signed_tree-in-Some : goal.juxtaposition_at-returns-in_ok-signed_tree-in-Some
 juxtaposition_at-returns-in_ok-signed_tree-in-Some t c =
-    let p = sign_stands c.args.tokens.now c.args.at c.in-Some.sign (sym c.in-Some.ensures) in (
-      signed_front (option_copied c.args.binder) c.args.opened c.in-Some.sign _ _ _ _ _ p.is
+    let p = sign_token_at_place c.args.tokens.now c.args.at c.in-Some.sign (sym c.in-Some.ensures) in (
+      signed_tokens_are_juxtaposition (option_copied c.args.binder) c.args.opened c.in-Some.sign _ _ _ _ _ p.is
           c.in_ok-operand-in-Some.ensures.0 c.in_ok-signed_tree-in-Some.ensures,
       omega (arith, c.in_ok-operand-in-Some.ensures.1),
       c.in_ok-operand-in-Some.ensures.2,
@@ -182,7 +192,7 @@ juxtaposition_at-returns-in_ok-signed_tree-in-Some t c =
 
 pub power_at-returns-then-not-has_caret : goal.power_at-returns-then-not-has_caret
 power_at-returns-then-not-has_caret t c = (
-  bare_front (option_copied c.args.binder) c.args.opened _ _ _ c.in_ok-base.ensures.0
+  bare_atom_tokens_are_power (option_copied c.args.binder) c.args.opened _ _ _ c.in_ok-base.ensures.0
       (sym c.if-not-has_caret.ensures),
   c.in_ok-base.ensures.1,
   c.in_ok-base.ensures.2,
@@ -190,18 +200,18 @@ power_at-returns-then-not-has_caret t c = (
 
 pub power_at-exponent_at-requires : goal.power_at-exponent_at-requires
 power_at-exponent_at-requires t c =
-    let p = caret_stands c.args.tokens.now c.in_ok-base.next (sym c.if-not-has_caret.ensures) in (
+    let p = caret_token_at_place c.args.tokens.now c.in_ok-base.next (sym c.if-not-has_caret.ensures) in (
       omega (arith, p.within, c.in_ok-base.ensures.1),
       (
         omega (arith, c.requires.deep, c.in_ok-base.ensures.1),
-        caret_wants c.args.opened _ _ p.is c.in_ok-base.ensures.0.fit,
+        caret_token_wants_operand c.args.opened _ _ p.is c.in_ok-base.ensures.0.fit,
       ),
     )
 
 pub power_at-returns : goal.power_at-returns
 power_at-returns t c =
-    let p = caret_stands c.args.tokens.now c.in_ok-base.next (sym c.if-not-has_caret.ensures) in (
-      raised_front (option_copied c.args.binder) c.args.opened _ _ _ _ _ _ _ c.in_ok-base.ensures.0 p.is
+    let p = caret_token_at_place c.args.tokens.now c.in_ok-base.next (sym c.if-not-has_caret.ensures) in (
+      raised_atom_tokens_are_power (option_copied c.args.binder) c.args.opened _ _ _ _ _ _ _ c.in_ok-base.ensures.0 p.is
           c.in_ok-exponent.ensures.0 c.in_ok-power_tree.ensures,
       omega (arith, c.in_ok-base.ensures.1, c.in_ok-exponent.ensures.1),
       c.in_ok-exponent.ensures.2,
@@ -209,7 +219,7 @@ power_at-returns t c =
 
 pub powers_at-returns-then-not-has_operand : goal.powers_at-returns-then-not-has_operand
 powers_at-returns-then-not-has_operand t c = (
-  one_member (option_copied c.args.binder) c.args.opened _ _ _ c.in_ok-first.ensures.0
+  one_parsed_member (option_copied c.args.binder) c.args.opened _ _ _ c.in_ok-first.ensures.0
       (sym c.if-not-has_operand.ensures),
   c.in_ok-first.ensures.1,
   c.in_ok-first.ensures.2,
@@ -218,7 +228,7 @@ powers_at-returns-then-not-has_operand t c = (
 pub powers_at-loop-alloc-init : goal.powers_at-loop-alloc-init
 powers_at-loop-alloc-init t c =
     record {
-      read = members_begun (option_copied c.args.binder) c.args.opened _ _ _ _ c.in_ok-first.ensures.0
+      read = first_parsed_member (option_copied c.args.binder) c.args.opened _ _ _ _ c.in_ok-first.ensures.0
           (sym c.if-not-has_operand.ensures)
           (c.in_ok-push.ensures.ok ∙ ap (λ v. v ++ syntax c.in_ok-first.first ∷ []) c.new-members.ensures);
       moved = c.in_ok-first.ensures.1;
@@ -228,7 +238,7 @@ powers_at-loop-alloc-init t c =
 pub powers_at-loop-alloc-preserved : goal.powers_at-loop-alloc-preserved
 powers_at-loop-alloc-preserved t c =
     record {
-      read = next_member (option_copied c.args.binder) c.args.opened _ _ _ _ _ _ c.loop-alloc.invariant.read
+      read = next_parsed_member (option_copied c.args.binder) c.args.opened _ _ _ _ _ _ c.loop-alloc.invariant.read
           c.in_ok-member.ensures.0 c.in_ok-push-2.ensures.ok;
       moved = omega (arith, c.loop-alloc.invariant.moved, c.in_ok-member.ensures.1);
       within = c.in_ok-member.ensures.2;
@@ -236,8 +246,8 @@ powers_at-loop-alloc-preserved t c =
 
 pub powers_at-returns : goal.powers_at-returns
 powers_at-returns t c = (
-  all_members (option_copied c.args.binder) c.args.opened _ _ _ _ c.loop-alloc.invariant.read
-      (sym c.loop-alloc-test.ensures) (of_juxtaposed c.loop-alloc.members),
+  all_parsed_members (option_copied c.args.binder) c.args.opened _ _ _ _ c.loop-alloc.invariant.read
+      (sym c.loop-alloc-test.ensures) (syntax_of_juxtaposed c.loop-alloc.members),
   c.loop-alloc.invariant.moved,
   c.loop-alloc.invariant.within,
 )
@@ -245,7 +255,7 @@ powers_at-returns t c = (
 pub product_at-returns-then-is_none : goal.product_at-returns-then-is_none
 product_at-returns-then-is_none t c =
     let none = sym c.scale_at.ensures ∙ no_some c.scale_at.result c.if-is_none.ensures in (
-      one_factor (option_copied c.args.binder) c.args.opened _ _ _ c.in_ok-first.ensures.0 none,
+      one_parsed_factor (option_copied c.args.binder) c.args.opened _ _ _ c.in_ok-first.ensures.0 none,
       c.in_ok-first.ensures.1,
       c.in_ok-first.ensures.2,
     )
@@ -253,7 +263,7 @@ product_at-returns-then-is_none t c =
 pub sum_at-returns-then-is_none : goal.sum_at-returns-then-is_none
 sum_at-returns-then-is_none t c =
     let none = sym c.sign_at.ensures ∙ no_some c.sign_at.result c.if-is_none.ensures in (
-      one_term (option_copied c.args.binder) c.args.opened _ _ _ c.in_ok-first.ensures.0 none,
+      one_parsed_term (option_copied c.args.binder) c.args.opened _ _ _ c.in_ok-first.ensures.0 none,
       c.in_ok-first.ensures.1,
       c.in_ok-first.ensures.2,
     )
@@ -261,7 +271,7 @@ sum_at-returns-then-is_none t c =
 pub sum_at-loop-sign-init : goal.sum_at-loop-sign-init
 sum_at-loop-sign-init t c =
     record {
-      read = terms_begun (option_copied c.args.binder) c.args.opened _ _ _ _ c.in_ok-first.ensures.0
+      read = first_parsed_term (option_copied c.args.binder) c.args.opened _ _ _ _ c.in_ok-first.ensures.0
           (λ none. not_none c.sign_at.result c.if-is_none.ensures (c.sign_at.ensures ∙ none))
           (c.in_ok-push.ensures.ok ∙ ap (λ v. v ++ (signs.Plus, syntax c.in_ok-first.first) ∷ []) c.new-terms.ensures);
       moved = c.in_ok-first.ensures.1;
@@ -270,19 +280,19 @@ sum_at-loop-sign-init t c =
 
 pub sum_at-product_at-requires-in-Some : goal.sum_at-product_at-requires-in-Some
 sum_at-product_at-requires-in-Some t c =
-    let p = sign_stands c.args.tokens.now c.loop-sign.next c.in-Some.sign (sym c.in-Some.ensures) in (
+    let p = sign_token_at_place c.args.tokens.now c.loop-sign.next c.in-Some.sign (sym c.in-Some.ensures) in (
       omega (arith, p.within, c.loop-sign.invariant.moved),
       (
         omega (arith, c.requires.deep, c.loop-sign.invariant.moved),
-        term_wants c.args.opened c.in-Some.sign _ _ p.is c.loop-sign.invariant.read.fit,
+        parsed_term_wants_operand c.args.opened c.in-Some.sign _ _ p.is c.loop-sign.invariant.read.fit,
       ),
     )
 
 pub sum_at-loop-sign-preserved : goal.sum_at-loop-sign-preserved
 sum_at-loop-sign-preserved t c =
-    let p = sign_stands c.args.tokens.now c.loop-sign.next c.in-Some.sign (sym c.in-Some.ensures) in
+    let p = sign_token_at_place c.args.tokens.now c.loop-sign.next c.in-Some.sign (sym c.in-Some.ensures) in
     record {
-      read = next_term (option_copied c.args.binder) c.args.opened _ _ _ _ c.in-Some.sign _ _ _
+      read = next_parsed_term (option_copied c.args.binder) c.args.opened _ _ _ _ c.in-Some.sign _ _ _
           c.loop-sign.invariant.read p.is c.in_ok-member.ensures.0 c.in_ok-push-2.ensures.ok;
       moved = omega (arith, c.loop-sign.invariant.moved, c.in_ok-member.ensures.1);
       within = c.in_ok-member.ensures.2;
@@ -290,8 +300,9 @@ sum_at-loop-sign-preserved t c =
 
 pub sum_at-returns : goal.sum_at-returns
 sum_at-returns t c = (
-  all_terms (option_copied c.args.binder) c.args.opened _ _ _ _ c.loop-sign.invariant.read (sym c.in_default.ensures)
-      (of_sum c.loop-sign.terms),
+  all_parsed_terms (option_copied c.args.binder) c.args.opened _ _ _ _ c.loop-sign.invariant.read
+      (sym c.in_default.ensures)
+      (syntax_of_sum c.loop-sign.terms),
   c.loop-sign.invariant.moved,
   c.loop-sign.invariant.within,
 )
@@ -299,7 +310,7 @@ sum_at-returns t c = (
 pub product_at-loop-scale-init : goal.product_at-loop-scale-init
 product_at-loop-scale-init t c =
     record {
-      read = factors_begun (option_copied c.args.binder) c.args.opened _ _ _ _ c.in_ok-first.ensures.0
+      read = first_parsed_factor (option_copied c.args.binder) c.args.opened _ _ _ _ c.in_ok-first.ensures.0
           (λ none. not_none c.scale_at.result c.if-is_none.ensures (c.scale_at.ensures ∙ none))
           (c.in_ok-push.ensures.ok ∙ ap (λ v. v ++ (Multiply, syntax c.in_ok-first.first) ∷ []) c.new-factors.ensures);
       moved = c.in_ok-first.ensures.1;
@@ -308,19 +319,19 @@ product_at-loop-scale-init t c =
 
 pub product_at-juxtaposition_at-requires-in-Some : goal.product_at-juxtaposition_at-requires-in-Some
 product_at-juxtaposition_at-requires-in-Some t c =
-    let p = scale_stands c.args.tokens.now c.loop-scale.next c.in-Some.scale (sym c.in-Some.ensures) in (
+    let p = scale_token_at_place c.args.tokens.now c.loop-scale.next c.in-Some.scale (sym c.in-Some.ensures) in (
       omega (arith, p.within, c.loop-scale.invariant.moved),
       (
         omega (arith, c.requires.deep, c.loop-scale.invariant.moved),
-        factor_wants c.args.opened c.in-Some.scale _ _ p.is c.loop-scale.invariant.read.fit,
+        parsed_factor_wants_operand c.args.opened c.in-Some.scale _ _ p.is c.loop-scale.invariant.read.fit,
       ),
     )
 
 pub product_at-loop-scale-preserved : goal.product_at-loop-scale-preserved
 product_at-loop-scale-preserved t c =
-    let p = scale_stands c.args.tokens.now c.loop-scale.next c.in-Some.scale (sym c.in-Some.ensures) in
+    let p = scale_token_at_place c.args.tokens.now c.loop-scale.next c.in-Some.scale (sym c.in-Some.ensures) in
     record {
-      read = next_factor (option_copied c.args.binder) c.args.opened _ _ _ _ c.in-Some.scale _ _ _
+      read = next_parsed_factor (option_copied c.args.binder) c.args.opened _ _ _ _ c.in-Some.scale _ _ _
           c.loop-scale.invariant.read p.is c.in_ok-member.ensures.0 c.in_ok-push-2.ensures.ok;
       moved = omega (arith, c.loop-scale.invariant.moved, c.in_ok-member.ensures.1);
       within = c.in_ok-member.ensures.2;
@@ -328,8 +339,8 @@ product_at-loop-scale-preserved t c =
 
 pub product_at-returns : goal.product_at-returns
 product_at-returns t c = (
-  all_factors (option_copied c.args.binder) c.args.opened _ _ _ _ c.loop-scale.invariant.read
-      (sym c.in_default.ensures) (of_product c.loop-scale.factors),
+  all_parsed_factors (option_copied c.args.binder) c.args.opened _ _ _ _ c.loop-scale.invariant.read
+      (sym c.in_default.ensures) (syntax_of_product c.loop-scale.factors),
   c.loop-scale.invariant.moved,
   c.loop-scale.invariant.within,
 )

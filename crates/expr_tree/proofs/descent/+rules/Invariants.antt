@@ -1,7 +1,7 @@
 use Rattle.std.proofs.Common.{◌+◌, ◌-◌, ◌*◌, ◌<◌, ◌≤◌, length}
 use Rattle.std.specs.Option.{option_copied}
 use Rattle.expr_tree.specs.Front.{tokens_from}
-use Rattle.expr_tree.specs.Trees.{factors_of, terms_of, trees_of}
+use Rattle.expr_tree.specs.Trees.{syntax_of_factors, syntax_of_terms, syntax_of_trees}
 use Rattle.expr_tree.proofs.Steps.{FactorsRead, MembersRead, TermsRead}
 use Rattle.expr_tree.proofs.descent.+rules.Given as goal
 
@@ -37,7 +37,7 @@ decreases-closed_sum_at l = 8 * (length l.tokens.now - l.at) + 7
 abbrev pub invariant-sum_at-loop-sign : goal.invariant-sum_at-loop-sign
 invariant-sum_at-loop-sign l = record {
   read : TermsRead (option_copied l.binder) l.opened (tokens_from l.tokens l.at) (tokens_from l.tokens l.next)
-      (terms_of l.terms);
+      (syntax_of_terms l.terms);
   moved : l.at < l.next;
   within : l.next ≤ length l.tokens;
 }
@@ -48,7 +48,7 @@ decreases-sum_at-loop-sign l = length l.tokens - l.next
 abbrev pub invariant-product_at-loop-scale : goal.invariant-product_at-loop-scale
 invariant-product_at-loop-scale l = record {
   read : FactorsRead (option_copied l.binder) l.opened (tokens_from l.tokens l.at) (tokens_from l.tokens l.next)
-      (factors_of l.factors);
+      (syntax_of_factors l.factors);
   moved : l.at < l.next;
   within : l.next ≤ length l.tokens;
 }
@@ -59,7 +59,7 @@ decreases-product_at-loop-scale l = length l.tokens - l.next
 abbrev pub invariant-powers_at-loop-alloc : goal.invariant-powers_at-loop-alloc
 invariant-powers_at-loop-alloc l = record {
   read : MembersRead (option_copied l.binder) l.opened (tokens_from l.tokens l.at) (tokens_from l.tokens l.next)
-      (trees_of l.members);
+      (syntax_of_trees l.members);
   moved : l.at < l.next;
   within : l.next ≤ length l.tokens;
 }

@@ -1,5 +1,5 @@
 use Rattle.std.proofs.Common.{◌≡◌, map, take}
-use Rattle.expr_tree.specs.Trees.{factor_syntax, syntax, term}
+use Rattle.expr_tree.specs.Trees.{factor_syntax, syntax, term_syntax}
 use Rattle.expr_tree.proofs.tree.+copy.Given as goal
 
 abbrev pub invariant-Trees::copy-loop-tree : goal.invariant-Trees::copy-loop-tree
@@ -10,4 +10,5 @@ invariant-Factors::copy-loop-member l = map factor_syntax l.items.items ≡ map 
     (take l.member-index l.member-items)
 
 abbrev pub invariant-Terms::copy-loop-member : goal.invariant-Terms::copy-loop-member
-invariant-Terms::copy-loop-member l = map term l.items.items ≡ map term (take l.member-index l.member-items)
+invariant-Terms::copy-loop-member l = map term_syntax l.items.items ≡ map term_syntax
+    (take l.member-index l.member-items)

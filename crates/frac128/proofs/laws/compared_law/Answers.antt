@@ -2,4 +2,4 @@ use Rattle.frac128.proofs.OrderLaws as ordered
 use Rattle.frac128.proofs.laws.compared_law.Goals as goal
 
 pub returns : goal.returns
-returns c = ordered.compared_law
+returns c = ordered.fraction_comparison_law

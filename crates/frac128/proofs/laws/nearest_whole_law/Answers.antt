@@ -2,4 +2,4 @@ use Rattle.frac128.proofs.NearestWholes as laws
 use Rattle.frac128.proofs.laws.nearest_whole_law.Goals as goal
 
 pub returns : goal.returns
-returns c = laws.nearest_whole_law
+returns c = laws.fraction_nearest_whole_law

@@ -2,4 +2,4 @@ use Rattle.frac128.proofs.OrderLaws as laws
 use Rattle.frac128.proofs.laws.order_law.Goals as goal
 
 pub returns : goal.returns
-returns c = laws.order_law
+returns c = laws.fraction_order_law

@@ -1,14 +1,15 @@
 use Rattle.std.proofs.Common.{ap, sym, ◌∙◌, arith}
-use Rattle.gap_list.specs.Gaps.{items_without}
-use Rattle.gap_list.proofs.FilledGaps.{filled_all, first_within, none_first}
+use Rattle.gap_list.specs.Gaps.{items_without_gaps}
+use Rattle.gap_list.proofs.FilledGaps.{filled_all, first_gap_is_within, no_first_gap}
 use Rattle.gap_list.proofs.filling.fill_gaps.Goals as goal
 
 pub returns-in_default-clause-items : goal.returns-in_default-clause-items
 returns-in_default-clause-items g c =
-    ap (λ gaps. items_without gaps c.args.slots.now.items) (sym (none_first c.args.gaps.now c.in_default.ensures))
+    ap (λ gaps. items_without_gaps gaps c.args.slots.now.items)
+    (sym (no_first_gap c.args.gaps.now c.in_default.ensures))
 
 pub returns-in_default-clause-none : goal.returns-in_default-clause-none
-returns-in_default-clause-none g c = none_first c.args.gaps.now c.in_default.ensures
+returns-in_default-clause-none g c = no_first_gap c.args.gaps.now c.in_default.ensures
 
 pub overflow_sub-len : goal.overflow_sub-len
 overflow_sub-len g c =
@@ -17,7 +18,7 @@ overflow_sub-len g c =
       c.len.ensures,
       c.len-2.ensures,
       c.args.slots.now.ok.0,
-      first_within c.args.gaps.now c.in-Some.first _ c.requires c.in-Some.ensures,
+      first_gap_is_within c.args.gaps.now c.in-Some.first _ c.requires c.in-Some.ensures,
     )
 
 pub move_items-requires-clause-range : goal.move_items-requires-clause-range
@@ -27,7 +28,7 @@ move_items-requires-clause-range g c =
       c.len.ensures,
       c.len-2.ensures,
       c.args.slots.now.ok.0,
-      first_within c.args.gaps.now c.in-Some.first _ c.requires c.in-Some.ensures,
+      first_gap_is_within c.args.gaps.now c.in-Some.first _ c.requires c.in-Some.ensures,
     )
 
 pub move_items-requires-clause-slots : goal.move_items-requires-clause-slots
@@ -37,7 +38,7 @@ move_items-requires-clause-slots g c =
       c.len.ensures,
       c.len-2.ensures,
       c.args.slots.now.ok.0,
-      first_within c.args.gaps.now c.in-Some.first _ c.requires c.in-Some.ensures,
+      first_gap_is_within c.args.gaps.now c.in-Some.first _ c.requires c.in-Some.ensures,
     )
 
 pub returns-clause-items : goal.returns-clause-items
@@ -50,6 +51,6 @@ returns-clause-items g c =
       c.len.ensures,
       c.len-2.ensures,
       c.args.slots.now.ok.0,
-      first_within c.args.gaps.now c.in-Some.first _ c.requires c.in-Some.ensures,
+      first_gap_is_within c.args.gaps.now c.in-Some.first _ c.requires c.in-Some.ensures,
     ))
     c.move_items.ensures.slots

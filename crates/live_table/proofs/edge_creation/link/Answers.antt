@@ -3,8 +3,8 @@ use Rattle.name_walk.specs.declared.step.Step.{Step}
 use Rattle.name_walk.specs.declared.step.Step.TheVariants.{To}
 use Rattle.live_table.specs.TableContents.{node_lists}
 use Rattle.live_table.proofs.OutcomesByKey.{settled_within}
-use Rattle.live_table.proofs.LinkedNames.{covered_edges, covered_on_err, linked_edges, looks_at}
-use Rattle.live_table.proofs.LinkedNames.{target_within}
+use Rattle.live_table.proofs.LinkedNames.{covered_edges, covered_on_err, linked_edges, read_looks_are_node_looks}
+use Rattle.live_table.proofs.LinkedNames.{settled_target_is_within_keys}
 use Rattle.live_table.proofs.edge_creation.link.Goals as goal
 
 pub steps_of-requires : goal.steps_of-requires
@@ -16,7 +16,8 @@ steps_of-requires c =
 
 pub gather_targets-requires : goal.gather_targets-requires
 gather_targets-requires c k i =
-    let w = target_within c.args.deck.now (node_lists c.args.nodes.now) c.requires.sound.0 c.requires.sound.1 c.args.n
+    let w = settled_target_is_within_keys c.args.deck.now (node_lists c.args.nodes.now) c.requires.sound.0
+    c.requires.sound.1 c.args.n
     c.requires.settled c.steps_of.result.now c.steps_of.ensures.is k i in
     let e = c.len-count.ensures in
     omega (arith, w, e)
@@ -47,7 +48,8 @@ pub link-requires-clause-used : goal.link-requires-clause-used
 link-requires-clause-used c k i =
     let j = (c.in_ok-gather_targets.ensures k).0
     (subst (λ (ns : List ℕ). Contains ns k) c.as_slice.ensures i) in
-    let w = target_within c.args.deck.now (node_lists c.args.nodes.now) c.requires.sound.0 c.requires.sound.1 c.args.n
+    let w = settled_target_is_within_keys c.args.deck.now (node_lists c.args.nodes.now) c.requires.sound.0
+    c.requires.sound.1 c.args.n
     c.requires.settled c.steps_of.result.now c.steps_of.ensures.is k j in
     let e = c.len-count.ensures in
     let a = c.in_ok-cover.ensures.covered in
@@ -58,7 +60,8 @@ link-requires-clause-looked c k i =
     let n = settled_within c.args.deck.now (node_lists c.args.nodes.now) c.requires.sound.0 c.requires.sound.1.numbers
     c.args.n c.requires.settled in
     let d = c.requires.sound.1.numbers.look_count in
-    let same = c.deref.ensures.value ∙ looks_at (node_lists c.args.nodes.now).looks c.args.n c.index.result.now
+    let same = c.deref.ensures.value ∙ read_looks_are_node_looks (node_lists c.args.nodes.now).looks c.args.n
+    c.index.result.now
     (omega (arith, n, d)) c.index.ensures in
     let w = (c.requires.sound.1.numbers.settled_looks c.args.n c.requires.settled).looks.seen_in_table k
     (subst (λ (ns : List ℕ). Contains ns k) same i) in
@@ -91,6 +94,6 @@ returns-clause-ok c rest edges =
     (subst (λ (p : List ℕ × List Step). (m : ℕ) → Contains p.0 m ↔ Contains p.1 (To m))
     (λ i. (sym c.as_slice.ensures i, c.steps_of.ensures.is i))
     c.in_ok-gather_targets.ensures)
-    (c.deref.ensures.value ∙ looks_at (node_lists c.args.nodes.now).looks c.args.n c.index.result.now
+    (c.deref.ensures.value ∙ read_looks_are_node_looks (node_lists c.args.nodes.now).looks c.args.n c.index.result.now
     (omega (arith, n, z)) c.index.ensures)
     (omega (arith, e, a))

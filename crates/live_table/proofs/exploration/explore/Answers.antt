@@ -1,40 +1,43 @@
 use Rattle.std.proofs.Common.{◌≡◌, ◌+◌, Some, refl, sym, ◌∙◌, subst}
 use Rattle.std.specs.List.{slice_get}
-use Rattle.def_entry.specs.Views.{entry_view, what_view}
-use Rattle.deck.specs.Tables.{table}
-use Rattle.live_table.specs.FoundDefinitions.{HasEntry}
-use Rattle.live_table.specs.TableContents.{Listed, key_at, node_lists}
-use Rattle.live_table.proofs.DefinitionSearch.{IsFinding, finding_next, finding_start}
-use Rattle.live_table.proofs.AddedNames.{grown_both}
-use Rattle.live_table.proofs.ReachedNames.{IsExploring, at_end, explored_next, exploring_end, exploring_next}
-use Rattle.live_table.proofs.ReachedNames.{exploring_start, stay_next}
+use Rattle.def_entry.specs.Views.{entry_definition_view, entry_view}
+use Rattle.deck.specs.Tables.{table_of_deck}
+use Rattle.live_table.specs.FoundDefinitions.{HasLiveEntry}
+use Rattle.live_table.specs.TableContents.{NodeLists, node_key_at, node_lists}
+use Rattle.live_table.proofs.DefinitionSearch.{IsFinding, finding_next, no_node_definition_at_start}
+use Rattle.live_table.proofs.AddedNames.{two_node_growths_are_one}
+use Rattle.live_table.proofs.ReachedNames.{IsExploring, explored_next, exploring_end, exploring_next}
+use Rattle.live_table.proofs.ReachedNames.{no_agenda_item_after_last, exploring_start, stay_next}
 use Rattle.live_table.proofs.exploration.explore.Goals as goal
 use Rattle.live_table.proofs.exploration.explore.Goals.{After-entry, After-make_room}
 use Rattle.general_lemmas.proofs.Members.{member_at}
 
 pub loop-n-init : goal.loop-n-init
 loop-n-init c = (
-  exploring_start (table c.args.deck.now) (node_lists c.args.nodes.now) c.args.explored.now c.args.worklist.now
+  exploring_start (table_of_deck c.args.deck.now) (node_lists c.args.nodes.now) c.args.explored.now c.args.worklist.now
       c.args.dead_ends.now.items c.requires.nodes c.requires.listed c.requires.before,
-  subst (λ found. IsFinding (table c.args.deck.now) c.args.nodes.now.keys c.args.worklist.now found 0)
-      (sym c.new-found.ensures.items) (finding_start (table c.args.deck.now) c.args.nodes.now.keys c.args.worklist.now),
+  subst (λ found. IsFinding (table_of_deck c.args.deck.now) c.args.nodes.now.keys c.args.worklist.now found 0)
+      (sym c.new-found.ensures.items)
+      (no_node_definition_at_start (table_of_deck c.args.deck.now) c.args.nodes.now.keys c.args.worklist.now),
 )
 
 -- with more room the state of the exploration is the same
 with_room : (c : After-make_room)
-    → IsExploring (table c.args.deck.now) (node_lists c.args.nodes.now) (node_lists c.make_room.new.nodes)
+    → IsExploring (table_of_deck c.args.deck.now) (node_lists c.args.nodes.now) (node_lists c.make_room.new.nodes)
     c.args.explored.now
     c.args.worklist.now c.loop-n.worklist c.args.dead_ends.now.items c.loop-n.dead_ends.items c.loop-n.place
 with_room c =
-    subst (λ (l : Listed). IsExploring (table c.args.deck.now) (node_lists c.args.nodes.now) l c.args.explored.now
+    subst (λ (l : NodeLists). IsExploring (table_of_deck c.args.deck.now) (node_lists c.args.nodes.now) l
+    c.args.explored.now
     c.args.worklist.now c.loop-n.worklist c.args.dead_ends.now.items c.loop-n.dead_ends.items c.loop-n.place)
     (sym c.make_room.ensures) c.loop-n.invariant.0
 
 -- the definitions found before are still right
 found_still : (c : After-make_room)
-    → IsFinding (table c.args.deck.now) c.make_room.new.nodes.keys c.loop-n.worklist c.loop-n.found.items c.loop-n.place
+    → IsFinding (table_of_deck c.args.deck.now) c.make_room.new.nodes.keys c.loop-n.worklist c.loop-n.found.items
+    c.loop-n.place
 found_still c =
-    subst (λ (l : Listed). IsFinding (table c.args.deck.now) l.keys c.loop-n.worklist c.loop-n.found.items
+    subst (λ (l : NodeLists). IsFinding (table_of_deck c.args.deck.now) l.keys c.loop-n.worklist c.loop-n.found.items
     c.loop-n.place)
     (sym c.make_room.ensures) c.loop-n.invariant.1
 
@@ -73,8 +76,8 @@ returns-in_err-push-clause-before c =
 
 -- the definition of the name
 says : (c : After-entry)
-    → HasEntry (table c.args.deck.now) (key_at c.make_room.new.nodes.keys c.in-Some.n)
-    (what_view c.entry.result.what.now)
+    → HasLiveEntry (table_of_deck c.args.deck.now) (node_key_at c.make_room.new.nodes.keys c.in-Some.n)
+    (entry_definition_view c.entry.result.what.now)
 says c = (entry_view c.entry.result, c.entry.ensures, refl)
 
 -- ---- the name is explored
@@ -95,7 +98,8 @@ explore_name-requires-clause-what c = says (goal.at.explore_name-requires-clause
 
 pub returns-in_err-explore_name-clause-grown : goal.returns-in_err-explore_name-clause-grown
 returns-in_err-explore_name-clause-grown c =
-    grown_both (table c.args.deck.now) (node_lists c.args.nodes.now) (node_lists c.make_room.new.nodes)
+    two_node_growths_are_one (table_of_deck c.args.deck.now) (node_lists c.args.nodes.now)
+    (node_lists c.make_room.new.nodes)
     (node_lists c.explore_name.new.nodes) c.args.explored.now c.args.worklist.now c.loop-n.worklist
     c.explore_name.new.worklist
     c.args.dead_ends.now.items c.loop-n.dead_ends.items c.explore_name.new.dead_ends.items
@@ -105,7 +109,7 @@ returns-in_err-explore_name-clause-grown c =
 pub returns-in_err-explore_name-clause-before : goal.returns-in_err-explore_name-clause-before
 returns-in_err-explore_name-clause-before c =
     let now = (goal.at.returns-in_err-explore_name-clause-before c).After-make_room in
-    explored_next (table c.args.deck.now) (node_lists c.args.nodes.now) (node_lists c.make_room.new.nodes)
+    explored_next (table_of_deck c.args.deck.now) (node_lists c.args.nodes.now) (node_lists c.make_room.new.nodes)
     (node_lists c.explore_name.new.nodes) c.args.explored.now c.args.worklist.now c.loop-n.worklist
     c.explore_name.new.worklist
     c.args.dead_ends.now.items c.loop-n.dead_ends.items c.explore_name.new.dead_ends.items c.loop-n.place c.in-Some.n
@@ -114,14 +118,16 @@ returns-in_err-explore_name-clause-before c =
 pub loop-n-preserved : goal.loop-n-preserved
 loop-n-preserved c =
     let now = (goal.at.loop-n-preserved c).After-make_room in (
-      exploring_next (table c.args.deck.now) (node_lists c.args.nodes.now) (node_lists c.make_room.new.nodes)
+      exploring_next (table_of_deck c.args.deck.now) (node_lists c.args.nodes.now) (node_lists c.make_room.new.nodes)
           (node_lists c.explore_name.new.nodes) c.args.explored.now c.args.worklist.now c.loop-n.worklist
           c.explore_name.new.worklist c.args.dead_ends.now.items c.loop-n.dead_ends.items
           c.explore_name.new.dead_ends.items c.loop-n.place c.in-Some.n (at_place now) (with_room now)
           c.explore_name.ensures.grown c.explore_name.ensures.same c.in_ok-explore_name.ensures.written,
-      subst (λ found. IsFinding (table c.args.deck.now) c.explore_name.new.nodes.keys c.explore_name.new.worklist found
+      subst (λ found. IsFinding (table_of_deck c.args.deck.now) c.explore_name.new.nodes.keys
+          c.explore_name.new.worklist found
           (c.loop-n.place + 1)) (sym c.in_ok-push.ensures.items)
-          (finding_next (table c.args.deck.now) (node_lists c.make_room.new.nodes) (node_lists c.explore_name.new.nodes)
+          (finding_next (table_of_deck c.args.deck.now) (node_lists c.make_room.new.nodes)
+          (node_lists c.explore_name.new.nodes)
           c.args.explored.now c.loop-n.worklist c.explore_name.new.worklist c.loop-n.dead_ends.items
           c.explore_name.new.dead_ends.items c.loop-n.found.items c.loop-n.place c.in-Some.n c.entry.result.what
           (with_room now).grown.list_right (at_place now) (says (goal.at.loop-n-preserved c).After-entry)
@@ -138,9 +144,11 @@ returns-clause-before c = c.loop-n.invariant.0.explored
 
 pub returns-clause-all : goal.returns-clause-all
 returns-clause-all c =
-    exploring_end (table c.args.deck.now) (node_lists c.args.nodes.now) (node_lists c.loop-n.nodes) c.args.explored.now
+    exploring_end (table_of_deck c.args.deck.now) (node_lists c.args.nodes.now) (node_lists c.loop-n.nodes)
+    c.args.explored.now
     c.args.worklist.now c.loop-n.worklist c.args.dead_ends.now.items c.loop-n.dead_ends.items c.loop-n.place
-    c.loop-n.invariant.0 (at_end c.loop-n.worklist c.loop-n.place (sym c.get.ensures.number ∙ c.in_default.is))
+    c.loop-n.invariant.0 (no_agenda_item_after_last c.loop-n.worklist c.loop-n.place
+    (sym c.get.ensures.number ∙ c.in_default.is))
 
 pub returns-clause-found : goal.returns-clause-found
 returns-clause-found c = c.loop-n.invariant.1.are
@@ -156,7 +164,7 @@ returns-in_err-push-clause-stay c = (with_room (goal.at.returns-in_err-push-clau
 pub returns-in_err-explore_name-clause-stay : goal.returns-in_err-explore_name-clause-stay
 returns-in_err-explore_name-clause-stay c =
     let now = (goal.at.returns-in_err-explore_name-clause-stay c).After-make_room in
-    stay_next (table c.args.deck.now) (node_lists c.args.nodes.now) (node_lists c.make_room.new.nodes)
+    stay_next (table_of_deck c.args.deck.now) (node_lists c.args.nodes.now) (node_lists c.make_room.new.nodes)
     (node_lists c.explore_name.new.nodes) c.args.explored.now c.args.worklist.now c.loop-n.worklist
     c.explore_name.new.worklist
     c.args.dead_ends.now.items c.loop-n.dead_ends.items c.explore_name.new.dead_ends.items c.loop-n.place c.in-Some.n

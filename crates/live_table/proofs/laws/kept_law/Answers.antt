@@ -2,4 +2,4 @@ use Rattle.live_table.proofs.KeptNames as laws
 use Rattle.live_table.proofs.laws.kept_law.Goals as goal
 
 pub returns : goal.returns
-returns c = laws.kept_law
+returns c = laws.cached_after_events_law

@@ -2,4 +2,4 @@ use Rattle.live_table.proofs.Events as laws
 use Rattle.live_table.proofs.laws.order_law.Goals as goal
 
 pub returns : goal.returns
-returns c = laws.order_law
+returns c = laws.live_event_order_law

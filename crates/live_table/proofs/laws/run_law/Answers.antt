@@ -2,4 +2,4 @@ use Rattle.live_table.proofs.Runs as laws
 use Rattle.live_table.proofs.laws.run_law.Goals as goal
 
 pub returns : goal.returns
-returns c = laws.run_law
+returns c = laws.live_event_run_law

@@ -1,61 +1,62 @@
 use Rattle.std.proofs.Common.{◌∷◌, [], Ok, Err, Result, refl, ◌∙◌, ap}
 use Rattle.std.proofs.lemmas.Result.{err_from_is_err_and}
 use Rattle.def_entry.specs.Keys.{key as key_named}
-use Rattle.deck.specs.Tables.{table}
+use Rattle.deck.specs.Tables.{table_of_deck}
 use Rattle.name_walk.specs.declared.step.Step.TheVariants.{To}
 use Rattle.table_names.specs.Faults.{key_fault}
 use Rattle.table_names.specs.Reach.{key_reach}
 use Rattle.live_table.specs.declared.fault.QueryFault.{QueryFault}
 use Rattle.live_table.specs.declared.fault.QueryFault.TheVariants as fault
-use Rattle.live_table.specs.QueryEffects.{IsQueryAnswered, IsSettledKey}
+use Rattle.live_table.specs.QueryEffects.{IsLiveQueryAnswered, IsSettledKey}
 use Rattle.live_table.specs.TableEdges.{IsLive}
-use Rattle.live_table.specs.Exploration.{AreGrown, WereExplored}
-use Rattle.live_table.specs.KnownFaults.{AreFaultsKnown}
+use Rattle.live_table.specs.Exploration.{AreNodesGrown, WereExplored}
+use Rattle.live_table.specs.KnownFaults.{AreExploredFaultsKnown}
 use Rattle.live_table.specs.States.{AsksKey}
-use Rattle.live_table.specs.TableContents.{node_lists, shown_table}
+use Rattle.live_table.specs.TableContents.{live_view_of_nodes, node_lists}
 use Rattle.live_table.proofs.AskedKeys.{IsNumber, key_explored_fault, key_explored_settled, one_known}
-use Rattle.live_table.proofs.AddedNames.{none_listed}
-use Rattle.live_table.proofs.GrownLive.{cut_short, grown_live, key_query}
-use Rattle.live_table.proofs.KnownFaults.{added_same, known_grown}
+use Rattle.live_table.proofs.AddedNames.{empty_list_is_agenda}
+use Rattle.live_table.proofs.GrownLive.{grown_live, live_query_cut_before_walk, live_query_of_key}
+use Rattle.live_table.proofs.KnownFaults.{added_nodes_keep_steps, explored_faults_after_growth}
 use Rattle.live_table.proofs.Stages.{AreAllStages, AreStages, Stages, cut_there, live_there, stages_of}
 use Rattle.live_table.proofs.StillExplored.{added_explored}
 use Rattle.live_table.proofs.StopAnswers.{answers_ok, no_memory, passed_on}
 use Rattle.live_table.proofs.name_queries.ask_key.Goals as goal
-use Rattle.live_table.proofs.name_queries.ask_key.Goals.{After-explore, After-put_key, After-settle_query}
-use Rattle.live_table.proofs.name_queries.ask_key.Goals.{In_ok-found}
+use Rattle.live_table.proofs.name_queries.ask_key.Goals.{After-explore, After-put_key, After-settle_query, In_ok-found}
 
 pub put_key-requires-clause-listed : goal.put_key-requires-clause-listed
 put_key-requires-clause-listed g c =
-    none_listed (table c.args.deck.now) (node_lists c.args.nodes.now) c.args.explored.now.names c.clear.new.self
+    empty_list_is_agenda (table_of_deck c.args.deck.now) (node_lists c.args.nodes.now) c.args.explored.now.names
+    c.clear.new.self
     c.requires.explored.explored_in_table c.clear.ensures
 
 -- ---- the key has a number
 -- names are added
 grown : (g : _) (c : After-put_key g)
-    → AreGrown (table c.args.deck.now) (node_lists c.args.nodes.now) (node_lists c.put_key.new.nodes)
+    → AreNodesGrown (table_of_deck c.args.deck.now) (node_lists c.args.nodes.now) (node_lists c.put_key.new.nodes)
     c.args.explored.now.names c.clear.new.self c.put_key.new.worklist c.args.explored.now.dead_ends.items
     c.args.explored.now.dead_ends.items
 grown g c = (c.put_key.ensures.added c.args.explored.now.dead_ends.items).growth
 
 -- explored names stay explored
 still : (g : _) (c : After-put_key g)
-    → WereExplored (table c.args.deck.now) (node_lists c.put_key.new.nodes) c.args.explored.now.names
+    → WereExplored (table_of_deck c.args.deck.now) (node_lists c.put_key.new.nodes) c.args.explored.now.names
     c.args.explored.now.dead_ends.items
 still g c =
-    added_explored (table c.args.deck.now) (node_lists c.args.nodes.now) (node_lists c.put_key.new.nodes)
+    added_explored (table_of_deck c.args.deck.now) (node_lists c.args.nodes.now) (node_lists c.put_key.new.nodes)
     c.args.explored.now.names c.clear.new.self c.put_key.new.worklist c.args.explored.now.dead_ends.items
     c.args.explored.now.dead_ends.items c.requires.live.is_sound.numbers
     (c.put_key.ensures.added c.args.explored.now.dead_ends.items) c.requires.explored
 
 -- the facts known about faults stay right
 known_led : (g : _) (c : After-put_key g)
-    → AreFaultsKnown (node_lists c.put_key.new.nodes) c.args.explored.now.names c.args.explored.now.findings
+    → AreExploredFaultsKnown (node_lists c.put_key.new.nodes) c.args.explored.now.names c.args.explored.now.findings
 known_led g c =
-    known_grown c.findings_law.ensures (table c.args.deck.now) (node_lists c.args.nodes.now)
+    explored_faults_after_growth c.findings_law.ensures (table_of_deck c.args.deck.now) (node_lists c.args.nodes.now)
     (node_lists c.put_key.new.nodes) c.args.explored.now.names c.clear.new.self c.put_key.new.worklist
     c.args.explored.now.dead_ends.items c.args.explored.now.dead_ends.items c.args.explored.now.findings
     c.requires.live.is_sound.numbers (grown g c)
-    (added_same (table c.args.deck.now) (node_lists c.args.nodes.now) (node_lists c.put_key.new.nodes)
+    (added_nodes_keep_steps (table_of_deck c.args.deck.now) (node_lists c.args.nodes.now)
+    (node_lists c.put_key.new.nodes)
     c.args.explored.now.names c.clear.new.self c.put_key.new.worklist c.args.explored.now.dead_ends.items
     c.args.explored.now.dead_ends.items (c.put_key.ensures.added c.args.explored.now.dead_ends.items)
     c.requires.explored) c.requires.faults
@@ -75,16 +76,17 @@ returns-in_err-n-clause-explored g c = still g (goal.at.returns-in_err-n-clause-
 
 pub returns-in_err-n-clause-asked : goal.returns-in_err-n-clause-asked
 returns-in_err-n-clause-asked g c =
-    let t = table c.args.deck.now in
+    let t = table_of_deck c.args.deck.now in
     let k = key_named c.args.kind c.args.name.now in
     let p = err_from_is_err_and c.from_residual.result c.from_residual.ensures.1 in
     no_memory t (node_lists c.put_key.new.nodes) c.args.explored.now.dead_ends.items
     c.args.explored.now.findings.faults _ c.from_residual.result (p.1 ∙ ap Err p.2)
-    (cut_short (IsSettledKey (node_lists c.put_key.new.nodes) k) (AsksKey k) (key_fault t k) (k ∷ key_reach t k)
+    (live_query_cut_before_walk (IsSettledKey (node_lists c.put_key.new.nodes) k) (AsksKey k) (key_fault t k)
+    (k ∷ key_reach t k)
     c.args.deck.now (node_lists c.args.nodes.now) (node_lists c.put_key.new.nodes) c.args.explored.now.names
     c.clear.new.self c.put_key.new.worklist c.args.explored.now.dead_ends.items c.args.explored.now.dead_ends.items
     c.args.reductions.now c.args.steps.now
-    (grown g (goal.at.returns-in_err-n-clause-asked g c).After-put_key) c.requires.live.is_sound (key_query t k)
+    (grown g (goal.at.returns-in_err-n-clause-asked g c).After-put_key) c.requires.live.is_sound (live_query_of_key t k)
     (Err fault.OutOfMemory) refl)
 
 pub explore-requires-clause-nodes : goal.explore-requires-clause-nodes
@@ -117,10 +119,10 @@ live g c = live_there (stages g c) (are_stages g c) c.args.edges.now c.requires.
 
 -- the facts known about faults are still right
 known_there : (g : _) (c : After-explore g)
-    → AreFaultsKnown (node_lists c.put_key.new.nodes) c.args.explored.now.names c.args.explored.now.findings
-    → AreFaultsKnown (node_lists c.explore.new.nodes) c.args.explored.now.names c.args.explored.now.findings
+    → AreExploredFaultsKnown (node_lists c.put_key.new.nodes) c.args.explored.now.names c.args.explored.now.findings
+    → AreExploredFaultsKnown (node_lists c.explore.new.nodes) c.args.explored.now.names c.args.explored.now.findings
 known_there g c led =
-    known_grown c.findings_law.ensures (table c.args.deck.now) (node_lists c.put_key.new.nodes)
+    explored_faults_after_growth c.findings_law.ensures (table_of_deck c.args.deck.now) (node_lists c.put_key.new.nodes)
     (node_lists c.explore.new.nodes) c.args.explored.now.names c.put_key.new.worklist c.explore.new.worklist
     c.args.explored.now.dead_ends.items c.explore.new.dead_ends.items c.args.explored.now.findings
     (c.put_key.ensures.added c.args.explored.now.dead_ends.items).growth.nodes c.explore.ensures.grown
@@ -136,14 +138,14 @@ returns-in_err-found-clause-live g c = live g (goal.at.returns-in_err-found-clau
 
 pub returns-in_err-found-clause-asked : goal.returns-in_err-found-clause-asked
 returns-in_err-found-clause-asked g c =
-    let t = table c.args.deck.now in
+    let t = table_of_deck c.args.deck.now in
     let k = key_named c.args.kind c.args.name.now in
     let now = (goal.at.returns-in_err-found-clause-asked g c).After-explore in
     let p = err_from_is_err_and c.from_residual-in_err-found.result c.from_residual-in_err-found.ensures.1 in
     no_memory t (node_lists c.explore.new.nodes) c.explore.new.dead_ends.items c.args.explored.now.findings.faults _
     c.from_residual-in_err-found.result (p.1 ∙ ap Err p.2)
     (cut_there (stages g now) (are_stages g now) (IsSettledKey (node_lists c.explore.new.nodes) k) (AsksKey k)
-    (key_fault t k) (k ∷ key_reach t k) c.args.steps.now (key_query t k) (Err fault.OutOfMemory) refl)
+    (key_fault t k) (k ∷ key_reach t k) c.args.steps.now (live_query_of_key t k) (Err fault.OutOfMemory) refl)
 
 -- all names below the key were explored
 abbrev all_stages : (g : _) → In_ok-found g → Stages
@@ -186,9 +188,11 @@ settle_query-requires-clause-faults g c =
 -- the result of the query of the number
 abbrev of_number : (g : _) (c : After-settle_query g) → Result (Unit {0}) QueryFault → Type 0
 of_number g c answer =
-    IsQueryAnswered (table c.args.deck.now) (node_lists c.explore.new.nodes) c.explore.new.dead_ends.items
-    (To c.in_ok-n.n ∷ []) answer (shown_table c.args.deck.now (node_lists c.explore.new.nodes) c.args.reductions.now)
-    (shown_table c.args.deck.now (node_lists c.settle_query.new.nodes) c.settle_query.new.reductions) c.args.steps.now
+    IsLiveQueryAnswered (table_of_deck c.args.deck.now) (node_lists c.explore.new.nodes) c.explore.new.dead_ends.items
+    (To c.in_ok-n.n ∷ []) answer
+    (live_view_of_nodes c.args.deck.now (node_lists c.explore.new.nodes) c.args.reductions.now)
+    (live_view_of_nodes c.args.deck.now (node_lists c.settle_query.new.nodes) c.settle_query.new.reductions)
+    c.args.steps.now
     c.settle_query.new.steps
 
 pub returns-in_err-settle_query-clause-asked : goal.returns-in_err-settle_query-clause-asked
@@ -197,19 +201,20 @@ returns-in_err-settle_query-clause-asked g c =
     let at = goal.at.returns-in_err-settle_query-clause-asked g c in
     let p = err_from_is_err_and c.from_residual-in_err-settle_query.result
     c.from_residual-in_err-settle_query.ensures.1 in
-    passed_on (table c.args.deck.now) (node_lists c.settle_query.new.nodes)
+    passed_on (table_of_deck c.args.deck.now) (node_lists c.settle_query.new.nodes)
     c.settle_query.new.explored.dead_ends.items c.settle_query.new.explored.findings.faults _
     (of_number g at.After-settle_query) c.in_err-settle_query.field-0.0 c.in_err-settle_query.ensures.answered
     (λ q answered. key_explored_fault (all_stages g at.In_ok-found) (are_all g at.In_ok-found) k c.in_ok-n.n
     (number g at.In_ok-found) (IsSettledKey (node_lists c.settle_query.new.nodes) k)
-    (shown_table c.args.deck.now (node_lists c.settle_query.new.nodes) c.settle_query.new.reductions) c.args.steps.now
+    (live_view_of_nodes c.args.deck.now (node_lists c.settle_query.new.nodes) c.settle_query.new.reductions)
+    c.args.steps.now
     c.settle_query.new.steps c.settle_query.ensures.live.is_sound.is_right q answered (Err q) refl)
     c.from_residual-in_err-settle_query.result (p.1 ∙ ap Err p.2)
 
 pub returns-clause-asked : goal.returns-clause-asked
 returns-clause-asked g c =
     let at = goal.at.returns-clause-asked g c in
-    let a = answers_ok (table c.args.deck.now) (node_lists c.settle_query.new.nodes)
+    let a = answers_ok (table_of_deck c.args.deck.now) (node_lists c.settle_query.new.nodes)
     c.settle_query.new.explored.dead_ends.items c.settle_query.new.explored.findings.faults
     (of_number g at.After-settle_query) tt c.in_ok-settle_query.ensures.answered in
     record {

@@ -2,26 +2,26 @@ use Rattle.std.proofs.Common.{◌≡◌, [], List, Some, Ok, Err, Result, refl, 
 use Rattle.std.proofs.lemmas.Result.{err_from_is_err_and}
 use Rattle.expr_tree.specs.declared.word_list.WordUse.{WordUse}
 use Rattle.name_walk.specs.declared.step.Step.{Step}
-use Rattle.deck.specs.Tables.{table}
+use Rattle.deck.specs.Tables.{table_of_deck}
 use Rattle.table_names.specs.Faults.{name_fault}
 use Rattle.table_names.specs.Reach.{reach}
-use Rattle.name_numbers.specs.NumberedNames.{LeadToKnown}
+use Rattle.name_numbers.specs.NumberedNames.{LeadToKnownNumbers}
 use Rattle.live_table.specs.declared.dead_end.DeadEnd.{DeadEnd}
 use Rattle.live_table.specs.declared.fault.QueryFault.{QueryFault}
 use Rattle.live_table.specs.declared.fault.QueryFault.TheVariants as fault
-use Rattle.live_table.specs.QueryEffects.{IsClosing, IsQueryAnswered, fault_in}
+use Rattle.live_table.specs.QueryEffects.{AreUnsettledNamesClosed, IsLiveQueryAnswered, live_query_fault}
 use Rattle.live_table.specs.TableEdges.{IsLive}
-use Rattle.live_table.specs.Exploration.{AreGrown, AreWritten, WereExplored, is_known}
-use Rattle.live_table.specs.KnownFaults.{AreFaultsKnown}
-use Rattle.live_table.specs.QueryWords.{AreCutAt, AreQuerySteps, fault_before}
+use Rattle.live_table.specs.Exploration.{AreExplorationSteps, AreNodesGrown, WereExplored, is_known_to_exploration}
+use Rattle.live_table.specs.KnownFaults.{AreExploredFaultsKnown}
+use Rattle.live_table.specs.QueryWords.{AreExplorationStepsCutAt, AreExploredQuerySteps, explored_fault_before}
 use Rattle.live_table.specs.States.{AsksWords}
-use Rattle.live_table.specs.Stops.{IsStopFault}
-use Rattle.live_table.specs.TableContents.{node_lists, shown_table}
+use Rattle.live_table.specs.Stops.{IsLiveStopFault}
+use Rattle.live_table.specs.TableContents.{live_view_of_nodes, node_lists}
 use Rattle.live_table.specs.EvalInvariants.{AreSettledWords}
 use Rattle.live_table.proofs.AskedFor.{all_known, explored_cut, explored_fault, explored_settled}
-use Rattle.live_table.proofs.AddedNames.{none_listed}
-use Rattle.live_table.proofs.GrownLive.{cut_short, grown_live, words_query}
-use Rattle.live_table.proofs.KnownFaults.{added_same, known_grown}
+use Rattle.live_table.proofs.AddedNames.{empty_list_is_agenda}
+use Rattle.live_table.proofs.GrownLive.{grown_live, live_query_cut_before_walk, live_query_of_words}
+use Rattle.live_table.proofs.KnownFaults.{added_nodes_keep_steps, explored_faults_after_growth}
 use Rattle.live_table.proofs.Stages.{AreAllStages, AreStages, Stages, cut_there, live_there, stages_of}
 use Rattle.live_table.proofs.StillExplored.{added_explored}
 use Rattle.live_table.proofs.StopAnswers.{answers_ok, no_memory, passed_on}
@@ -31,36 +31,38 @@ use Rattle.live_table.proofs.name_queries.ask_words.Goals.{In_ok-found}
 
 pub query_steps-requires-clause-listed : goal.query_steps-requires-clause-listed
 query_steps-requires-clause-listed g c =
-    none_listed (table c.args.deck.now) (node_lists c.args.nodes.now) c.args.explored.now.names c.clear.new.self
+    empty_list_is_agenda (table_of_deck c.args.deck.now) (node_lists c.args.nodes.now) c.args.explored.now.names
+    c.clear.new.self
     c.requires.explored.explored_in_table c.clear.ensures
 
 -- ---- the targets of the words have numbers
 -- names are added
 grown : (g : _) (c : After-query_steps g)
-    → AreGrown (table c.args.deck.now) (node_lists c.args.nodes.now) (node_lists c.query_steps.new.nodes)
+    → AreNodesGrown (table_of_deck c.args.deck.now) (node_lists c.args.nodes.now) (node_lists c.query_steps.new.nodes)
     c.args.explored.now.names c.clear.new.self c.query_steps.new.worklist c.args.explored.now.dead_ends.items
     c.args.explored.now.dead_ends.items
 grown g c = (c.query_steps.ensures.added c.args.explored.now.dead_ends.items).growth
 
 -- explored names stay explored
 still : (g : _) (c : After-query_steps g)
-    → WereExplored (table c.args.deck.now) (node_lists c.query_steps.new.nodes) c.args.explored.now.names
+    → WereExplored (table_of_deck c.args.deck.now) (node_lists c.query_steps.new.nodes) c.args.explored.now.names
     c.args.explored.now.dead_ends.items
 still g c =
-    added_explored (table c.args.deck.now) (node_lists c.args.nodes.now) (node_lists c.query_steps.new.nodes)
+    added_explored (table_of_deck c.args.deck.now) (node_lists c.args.nodes.now) (node_lists c.query_steps.new.nodes)
     c.args.explored.now.names c.clear.new.self c.query_steps.new.worklist c.args.explored.now.dead_ends.items
     c.args.explored.now.dead_ends.items c.requires.live.is_sound.numbers
     (c.query_steps.ensures.added c.args.explored.now.dead_ends.items) c.requires.explored
 
 -- the facts known about faults stay right
 known_led : (g : _) (c : After-query_steps g)
-    → AreFaultsKnown (node_lists c.query_steps.new.nodes) c.args.explored.now.names c.args.explored.now.findings
+    → AreExploredFaultsKnown (node_lists c.query_steps.new.nodes) c.args.explored.now.names c.args.explored.now.findings
 known_led g c =
-    known_grown c.findings_law.ensures (table c.args.deck.now) (node_lists c.args.nodes.now)
+    explored_faults_after_growth c.findings_law.ensures (table_of_deck c.args.deck.now) (node_lists c.args.nodes.now)
     (node_lists c.query_steps.new.nodes) c.args.explored.now.names c.clear.new.self c.query_steps.new.worklist
     c.args.explored.now.dead_ends.items c.args.explored.now.dead_ends.items c.args.explored.now.findings
     c.requires.live.is_sound.numbers (grown g c)
-    (added_same (table c.args.deck.now) (node_lists c.args.nodes.now) (node_lists c.query_steps.new.nodes)
+    (added_nodes_keep_steps (table_of_deck c.args.deck.now) (node_lists c.args.nodes.now)
+    (node_lists c.query_steps.new.nodes)
     c.args.explored.now.names c.clear.new.self c.query_steps.new.worklist c.args.explored.now.dead_ends.items
     c.args.explored.now.dead_ends.items (c.query_steps.ensures.added c.args.explored.now.dead_ends.items)
     c.requires.explored) c.requires.faults
@@ -83,17 +85,18 @@ returns-in_err-query-clause-explored g c =
 
 pub returns-in_err-query-clause-asked : goal.returns-in_err-query-clause-asked
 returns-in_err-query-clause-asked g c =
-    let t = table c.args.deck.now in
+    let t = table_of_deck c.args.deck.now in
     let p = err_from_is_err_and c.from_residual.result c.from_residual.ensures.1 in
     no_memory t (node_lists c.query_steps.new.nodes) c.args.explored.now.dead_ends.items
     c.args.explored.now.findings.faults _ c.from_residual.result (p.1 ∙ ap Err p.2)
-    (cut_short (λ (query : List Step). AreSettledWords t (node_lists c.query_steps.new.nodes) c.args.words.now
+    (live_query_cut_before_walk
+    (λ (query : List Step). AreSettledWords t (node_lists c.query_steps.new.nodes) c.args.words.now
     query) (AsksWords c.args.words.now) (name_fault t c.args.words.now) (reach t c.args.words.now)
     c.args.deck.now (node_lists c.args.nodes.now) (node_lists c.query_steps.new.nodes) c.args.explored.now.names
     c.clear.new.self c.query_steps.new.worklist c.args.explored.now.dead_ends.items
     c.args.explored.now.dead_ends.items c.args.reductions.now c.args.steps.now
     (grown g (goal.at.returns-in_err-query-clause-asked g c).After-query_steps) c.requires.live.is_sound
-    (words_query t c.args.words.now) (Err fault.OutOfMemory) refl)
+    (live_query_of_words t c.args.words.now) (Err fault.OutOfMemory) refl)
 
 pub explore-requires-clause-nodes : goal.explore-requires-clause-nodes
 explore-requires-clause-nodes g c = (grown g (goal.at.explore-requires-clause-nodes g c).After-query_steps).nodes
@@ -125,10 +128,11 @@ live g c = live_there (stages g c) (are_stages g c) c.args.edges.now c.requires.
 
 -- the facts known about faults are still right
 known_there : (g : _) (c : After-explore g)
-    → AreFaultsKnown (node_lists c.query_steps.new.nodes) c.args.explored.now.names c.args.explored.now.findings
-    → AreFaultsKnown (node_lists c.explore.new.nodes) c.args.explored.now.names c.args.explored.now.findings
+    → AreExploredFaultsKnown (node_lists c.query_steps.new.nodes) c.args.explored.now.names c.args.explored.now.findings
+    → AreExploredFaultsKnown (node_lists c.explore.new.nodes) c.args.explored.now.names c.args.explored.now.findings
 known_there g c led =
-    known_grown c.findings_law.ensures (table c.args.deck.now) (node_lists c.query_steps.new.nodes)
+    explored_faults_after_growth c.findings_law.ensures (table_of_deck c.args.deck.now)
+    (node_lists c.query_steps.new.nodes)
     (node_lists c.explore.new.nodes) c.args.explored.now.names c.query_steps.new.worklist c.explore.new.worklist
     c.args.explored.now.dead_ends.items c.explore.new.dead_ends.items c.args.explored.now.findings
     (c.query_steps.ensures.added c.args.explored.now.dead_ends.items).growth.nodes c.explore.ensures.grown
@@ -144,7 +148,7 @@ returns-in_err-found-clause-live g c = live g (goal.at.returns-in_err-found-clau
 
 pub returns-in_err-found-clause-asked : goal.returns-in_err-found-clause-asked
 returns-in_err-found-clause-asked g c =
-    let t = table c.args.deck.now in
+    let t = table_of_deck c.args.deck.now in
     let now = (goal.at.returns-in_err-found-clause-asked g c).After-explore in
     let p = err_from_is_err_and c.from_residual-in_err-found.result c.from_residual-in_err-found.ensures.1 in
     no_memory t (node_lists c.explore.new.nodes) c.explore.new.dead_ends.items c.args.explored.now.findings.faults _
@@ -152,7 +156,7 @@ returns-in_err-found-clause-asked g c =
     (cut_there (stages g now) (are_stages g now)
     (λ (query : List Step). AreSettledWords t (node_lists c.explore.new.nodes) c.args.words.now query)
     (AsksWords c.args.words.now) (name_fault t c.args.words.now) (reach t c.args.words.now) c.args.steps.now
-    (words_query t c.args.words.now) (Err fault.OutOfMemory) refl)
+    (live_query_of_words t c.args.words.now) (Err fault.OutOfMemory) refl)
 
 -- all names below the targets were explored
 abbrev all_stages : (g : _) → In_ok-found g → Stages
@@ -174,19 +178,23 @@ are_all g c = record {
 
 -- words that were written lead to known names
 known : (g : _) (c : After-explore g) (us : List WordUse) (xs targets : List Step) → targets ≡ xs
-    → AreWritten (table c.args.deck.now) (node_lists c.query_steps.new.nodes) c.args.explored.now.names
+    → AreExplorationSteps (table_of_deck c.args.deck.now) (node_lists c.query_steps.new.nodes) c.args.explored.now.names
     c.query_steps.new.worklist [] us xs
-    → LeadToKnown (is_known c.explore.new.nodes.settled.items c.args.explored.now.names c.explore.new.worklist) targets
+    → LeadToKnownNumbers (is_known_to_exploration c.explore.new.nodes.settled.items c.args.explored.now.names
+    c.explore.new.worklist) targets
 known g c us xs targets same written =
-    subst (LeadToKnown (is_known c.explore.new.nodes.settled.items c.args.explored.now.names c.explore.new.worklist))
+    subst (LeadToKnownNumbers
+    (is_known_to_exploration c.explore.new.nodes.settled.items c.args.explored.now.names c.explore.new.worklist))
     (sym same) (all_known (stages g c) (are_stages g c) us xs written)
 
 -- ---- a word leads nowhere
 cut : (g : _) (c : In-Some g)
-    → AreCutAt (table c.args.deck.now) (node_lists c.query_steps.new.nodes) c.args.explored.now.names
+    → AreExplorationStepsCutAt (table_of_deck c.args.deck.now) (node_lists c.query_steps.new.nodes)
+    c.args.explored.now.names
     c.query_steps.new.worklist c.args.words.now c.in_ok-query.query.steps c.in-Some.end
 cut g c =
-    subst (AreQuerySteps (table c.args.deck.now) (node_lists c.query_steps.new.nodes) c.args.explored.now.names
+    subst (AreExploredQuerySteps (table_of_deck c.args.deck.now) (node_lists c.query_steps.new.nodes)
+    c.args.explored.now.names
     c.query_steps.new.worklist c.args.words.now c.in_ok-query.query.steps) c.in-Some.is
     c.in_ok-query.ensures.steps
 
@@ -207,7 +215,7 @@ returns-in_err-stop-clause-live g c = live g (goal.at.returns-in_err-stop-clause
 
 pub returns-in_err-stop-clause-asked : goal.returns-in_err-stop-clause-asked
 returns-in_err-stop-clause-asked g c =
-    let t = table c.args.deck.now in
+    let t = table_of_deck c.args.deck.now in
     let now = (goal.at.returns-in_err-stop-clause-asked g c).After-explore in
     let p = err_from_is_err_and c.from_residual-in_err-stop.result c.from_residual-in_err-stop.ensures.1 in
     no_memory t (node_lists c.explore.new.nodes) c.cut_stop.new.explored.dead_ends.items
@@ -215,21 +223,21 @@ returns-in_err-stop-clause-asked g c =
     (cut_there (stages g now) (are_stages g now)
     (λ (query : List Step). AreSettledWords t (node_lists c.explore.new.nodes) c.args.words.now query)
     (AsksWords c.args.words.now) (name_fault t c.args.words.now) (reach t c.args.words.now) c.args.steps.now
-    (words_query t c.args.words.now) (Err fault.OutOfMemory) refl)
+    (live_query_of_words t c.args.words.now) (Err fault.OutOfMemory) refl)
 
 pub returns-in-Some-clause-live : goal.returns-in-Some-clause-live
 returns-in-Some-clause-live g c = live g (goal.at.returns-in-Some-clause-live g c).After-explore
 
 pub returns-in-Some-clause-asked : goal.returns-in-Some-clause-asked
 returns-in-Some-clause-asked g c =
-    let t = table c.args.deck.now in
+    let t = table_of_deck c.args.deck.now in
     let at = goal.at.returns-in-Some-clause-asked g c in
     let stopped = c.in_ok-stop.ensures.stop in
     record {
       named_answer = Err (fault.Name stopped.name);
       result_named = (
         fault.Name stopped.name,
-        subst (λ (ends : List DeadEnd). IsStopFault t (node_lists c.explore.new.nodes) ends
+        subst (λ (ends : List DeadEnd). IsLiveStopFault t (node_lists c.explore.new.nodes) ends
             c.cut_stop.new.explored.findings.faults c.in_ok-stop.stop (fault.Name stopped.name))
             (sym c.cut_stop.ensures.dead_ends) stopped.stop_named,
         refl,
@@ -238,17 +246,18 @@ returns-in-Some-clause-asked g c =
           c.args.words.now
           query) (all_stages g at.In_ok-found) (are_all g at.In_ok-found) c.args.words.now
           c.in_ok-query.query.steps c.in-Some.end c.args.steps.now (cut g at.In-Some) stopped.name
-          (subst (λ (ys : List Step). fault_before (fault_in t (node_lists c.explore.new.nodes)
+          (subst (λ (ys : List Step). explored_fault_before (live_query_fault t (node_lists c.explore.new.nodes)
           c.explore.new.dead_ends.items ys) c.in-Some.end ≡ Some stopped.name)
           c.as_slice-targets.ensures stopped.fault_first);
     }
 
 -- ---- all words lead somewhere
 written : (g : _) (c : In_default g)
-    → AreWritten (table c.args.deck.now) (node_lists c.query_steps.new.nodes) c.args.explored.now.names
+    → AreExplorationSteps (table_of_deck c.args.deck.now) (node_lists c.query_steps.new.nodes) c.args.explored.now.names
     c.query_steps.new.worklist [] c.args.words.now c.in_ok-query.query.steps
 written g c =
-    subst (AreQuerySteps (table c.args.deck.now) (node_lists c.query_steps.new.nodes) c.args.explored.now.names
+    subst (AreExploredQuerySteps (table_of_deck c.args.deck.now) (node_lists c.query_steps.new.nodes)
+    c.args.explored.now.names
     c.query_steps.new.worklist c.args.words.now c.in_ok-query.query.steps) c.in_default.is
     c.in_ok-query.ensures.steps
 
@@ -268,37 +277,40 @@ settle_query-requires-clause-faults g c =
 
 pub returns-in_err-settle_query-clause-asked : goal.returns-in_err-settle_query-clause-asked
 returns-in_err-settle_query-clause-asked g c =
-    let t = table c.args.deck.now in
+    let t = table_of_deck c.args.deck.now in
     let at = goal.at.returns-in_err-settle_query-clause-asked g c in
-    let now = shown_table c.args.deck.now (node_lists c.settle_query.new.nodes) c.settle_query.new.reductions in
+    let now = live_view_of_nodes c.args.deck.now (node_lists c.settle_query.new.nodes) c.settle_query.new.reductions in
     let p = err_from_is_err_and c.from_residual-in_err-settle_query.result c.from_residual-in_err-settle_query.ensures.1
     in
     passed_on t (node_lists c.settle_query.new.nodes) c.settle_query.new.explored.dead_ends.items
     c.settle_query.new.explored.findings.faults _
-    (λ (r : Result (Unit {0}) QueryFault). IsQueryAnswered t (node_lists c.explore.new.nodes)
+    (λ (r : Result (Unit {0}) QueryFault). IsLiveQueryAnswered t (node_lists c.explore.new.nodes)
     c.explore.new.dead_ends.items
-    c.as_slice-targets.result.now r (shown_table c.args.deck.now (node_lists c.explore.new.nodes) c.args.reductions.now)
+    c.as_slice-targets.result.now r
+    (live_view_of_nodes c.args.deck.now (node_lists c.explore.new.nodes) c.args.reductions.now)
     now c.args.steps.now c.settle_query.new.steps) c.in_err-settle_query.field-0.0
     c.in_err-settle_query.ensures.answered
     (λ q answered. explored_fault (all_stages g at.In_ok-found) (are_all g at.In_ok-found) c.args.words.now
     c.in_ok-query.query.steps (written g at.In_default)
     (λ (query : List Step). AreSettledWords t (node_lists c.settle_query.new.nodes) c.args.words.now query)
     now c.args.steps.now c.settle_query.new.steps c.settle_query.ensures.live.is_sound.is_right q
-    (subst (λ (ys : List Step). IsQueryAnswered t (node_lists c.explore.new.nodes) c.explore.new.dead_ends.items ys
-    (Err q) (shown_table c.args.deck.now (node_lists c.explore.new.nodes) c.args.reductions.now)
+    (subst (λ (ys : List Step). IsLiveQueryAnswered t (node_lists c.explore.new.nodes) c.explore.new.dead_ends.items ys
+    (Err q) (live_view_of_nodes c.args.deck.now (node_lists c.explore.new.nodes) c.args.reductions.now)
     now c.args.steps.now c.settle_query.new.steps) c.as_slice-targets.ensures answered) (Err q) refl)
     c.from_residual-in_err-settle_query.result (p.1 ∙ ap Err p.2)
 
 pub returns-clause-asked : goal.returns-clause-asked
 returns-clause-asked g c =
-    let t = table c.args.deck.now in
+    let t = table_of_deck c.args.deck.now in
     let at = goal.at.returns-clause-asked g c in
     let a = answers_ok t (node_lists c.settle_query.new.nodes) c.settle_query.new.explored.dead_ends.items
     c.settle_query.new.explored.findings.faults
-    (λ (r : Result (Unit {0}) QueryFault). IsQueryAnswered t (node_lists c.explore.new.nodes)
+    (λ (r : Result (Unit {0}) QueryFault). IsLiveQueryAnswered t (node_lists c.explore.new.nodes)
     c.explore.new.dead_ends.items
-    c.as_slice-targets.result.now r (shown_table c.args.deck.now (node_lists c.explore.new.nodes) c.args.reductions.now)
-    (shown_table c.args.deck.now (node_lists c.settle_query.new.nodes) c.settle_query.new.reductions) c.args.steps.now
+    c.as_slice-targets.result.now r
+    (live_view_of_nodes c.args.deck.now (node_lists c.explore.new.nodes) c.args.reductions.now)
+    (live_view_of_nodes c.args.deck.now (node_lists c.settle_query.new.nodes) c.settle_query.new.reductions)
+    c.args.steps.now
     c.settle_query.new.steps) tt c.in_ok-settle_query.ensures.answered in
     record {
       named_answer = Ok c.in_ok-query.query.steps;
@@ -310,7 +322,7 @@ returns-clause-asked g c =
             sound = c.settle_query.ensures.live.is_sound;
             keys = c.in_ok-settle_query.ensures.keys;
             order = a.0;
-            closing = subst (λ (ys : List Step). IsClosing (node_lists c.explore.new.nodes) ys a.0)
+            closing = subst (λ (ys : List Step). AreUnsettledNamesClosed (node_lists c.explore.new.nodes) ys a.0)
                 c.as_slice-targets.ensures a.1;
             all = a.2;
           }) c.in_ok-query.query.steps refl;

@@ -2,11 +2,11 @@ use Rattle.std.proofs.Common.{[], List, Some, sym, ◌∙◌, ap, arith}
 use Rattle.std.specs.List.{slice_get}
 use Rattle.std.proofs.lemmas.Option.{slice_get-get_or}
 use Rattle.expr_tree.specs.declared.word_list.WordUse.{WordUse}
-use Rattle.deck.specs.Tables.{table}
+use Rattle.deck.specs.Tables.{table_of_deck}
 use Rattle.live_table.specs.declared.dead_end.DeadEnd.{DeadEnd}
-use Rattle.live_table.specs.Exploration.{AreAdded}
+use Rattle.live_table.specs.Exploration.{AreNodesAdded}
 use Rattle.live_table.specs.TableContents.{node_lists}
-use Rattle.live_table.proofs.AddedNames.{added_both}
+use Rattle.live_table.proofs.AddedNames.{two_node_additions_are_one}
 use Rattle.live_table.proofs.LeadSteps.{lead_present, lead_within}
 use Rattle.live_table.proofs.QuerySteps.{IsTurn, stepped_added, stepping_cut, stepping_next}
 use Rattle.live_table.proofs.query_words.query_steps.Goals as goal
@@ -14,7 +14,7 @@ use Rattle.live_table.proofs.query_words.query_steps.Goals.{After-query_lead, Af
 
 -- the lead of a word adds these names in this turn
 led : (c : After-query_lead) (ends : List DeadEnd)
-    → AreAdded (table c.args.deck.now) (node_lists c.loop-u.nodes) (node_lists c.query_lead.new.nodes)
+    → AreNodesAdded (table_of_deck c.args.deck.now) (node_lists c.loop-u.nodes) (node_lists c.query_lead.new.nodes)
     c.args.explored.now
     c.loop-u.worklist c.loop-u.worklist ends ends
 led c ends =
@@ -26,23 +26,26 @@ query_lead-requires c = (c.loop-u.invariant.added []).growth.nodes
 
 pub returns-in_err-lead-clause-added : goal.returns-in_err-lead-clause-added
 returns-in_err-lead-clause-added c ends =
-    added_both (table c.args.deck.now) (node_lists c.args.nodes.now) (node_lists c.loop-u.nodes)
+    two_node_additions_are_one (table_of_deck c.args.deck.now) (node_lists c.args.nodes.now) (node_lists c.loop-u.nodes)
     (node_lists c.query_lead.new.nodes)
     c.args.explored.now c.args.worklist.now c.loop-u.worklist c.loop-u.worklist ends ends ends
     (c.loop-u.invariant.added ends) (led (goal.at.returns-in_err-lead-clause-added c).After-query_lead ends)
 
 pub target_steps-requires-clause-nodes : goal.target_steps-requires-clause-nodes
-target_steps-requires-clause-nodes c =
-    (table c.args.deck.now, (led (goal.at.target_steps-requires-clause-nodes c).After-query_lead []).growth.nodes)
+target_steps-requires-clause-nodes c = (
+  table_of_deck c.args.deck.now,
+  (led (goal.at.target_steps-requires-clause-nodes c).After-query_lead
+      []).growth.nodes,
+)
 
 pub target_steps-requires-clause-within : goal.target_steps-requires-clause-within
 target_steps-requires-clause-within c =
-    lead_within (table c.args.deck.now) c.query_lead.new.nodes.keys c.u-item.result c.in_ok-lead.lead
+    lead_within (table_of_deck c.args.deck.now) c.query_lead.new.nodes.keys c.u-item.result c.in_ok-lead.lead
     c.in_ok-lead.ensures.lead
 
 -- this turn, with the word at its place
 turn : (c : After-target_steps)
-    → IsTurn (table c.args.deck.now) (node_lists c.args.nodes.now) (node_lists c.loop-u.nodes)
+    → IsTurn (table_of_deck c.args.deck.now) (node_lists c.args.nodes.now) (node_lists c.loop-u.nodes)
     (node_lists c.query_lead.new.nodes)
     c.args.explored.now c.args.worklist.now c.loop-u.worklist c.target_steps.new.worklist c.args.words.now
     c.loop-u.steps c.loop-u.u-index c.u-item.result
@@ -57,18 +60,18 @@ turn c = record {
   put = λ ends.
       let added = c.query_lead.ensures.added c.args.explored.now c.loop-u.worklist ends
       (c.loop-u.invariant.added ends).growth.list_right in
-      c.target_steps.ensures.added (table c.args.deck.now) ends added.growth.nodes added.growth.list_right
-      (lead_present (table c.args.deck.now) c.query_lead.new.nodes.keys c.u-item.result c.in_ok-lead.lead
+      c.target_steps.ensures.added (table_of_deck c.args.deck.now) ends added.growth.nodes added.growth.list_right
+      (lead_present (table_of_deck c.args.deck.now) c.query_lead.new.nodes.keys c.u-item.result c.in_ok-lead.lead
       c.in_ok-lead.ensures.lead);
 }
 
 -- the names that the turn adds
 added : (c : After-target_steps) (ends : List DeadEnd)
-    → AreAdded (table c.args.deck.now) (node_lists c.args.nodes.now) (node_lists c.query_lead.new.nodes)
+    → AreNodesAdded (table_of_deck c.args.deck.now) (node_lists c.args.nodes.now) (node_lists c.query_lead.new.nodes)
     c.args.explored.now
     c.args.worklist.now c.target_steps.new.worklist ends ends
 added c ends =
-    stepped_added (table c.args.deck.now) (node_lists c.args.nodes.now) (node_lists c.loop-u.nodes)
+    stepped_added (table_of_deck c.args.deck.now) (node_lists c.args.nodes.now) (node_lists c.loop-u.nodes)
     (node_lists c.query_lead.new.nodes) c.args.explored.now c.args.worklist.now c.loop-u.worklist
     c.target_steps.new.worklist
     c.args.words.now c.loop-u.steps c.loop-u.u-index c.u-item.result (turn c) ends
@@ -90,7 +93,7 @@ returns-in_err-push-2-clause-added c = added (goal.at.returns-in_err-push-2-clau
 
 pub returns-in_default-clause-steps : goal.returns-in_default-clause-steps
 returns-in_default-clause-steps c =
-    stepping_cut (table c.args.deck.now) (node_lists c.args.nodes.now) (node_lists c.loop-u.nodes)
+    stepping_cut (table_of_deck c.args.deck.now) (node_lists c.args.nodes.now) (node_lists c.loop-u.nodes)
     (node_lists c.query_lead.new.nodes) c.args.explored.now c.args.worklist.now c.loop-u.worklist
     c.target_steps.new.worklist
     c.args.words.now c.loop-u.steps c.loop-u.u-index c.u-item.result
@@ -99,7 +102,7 @@ returns-in_default-clause-steps c =
 
 pub loop-u-preserved : goal.loop-u-preserved
 loop-u-preserved c =
-    stepping_next (table c.args.deck.now) (node_lists c.args.nodes.now) (node_lists c.loop-u.nodes)
+    stepping_next (table_of_deck c.args.deck.now) (node_lists c.args.nodes.now) (node_lists c.loop-u.nodes)
     (node_lists c.query_lead.new.nodes) c.args.explored.now c.args.worklist.now c.loop-u.worklist
     c.target_steps.new.worklist
     c.args.words.now c.loop-u.steps c.loop-u.u-index c.u-item.result

@@ -2,7 +2,7 @@ use Rattle.std.proofs.Common.{◌≡◌, ◌+◌, ◌<◌, ◌≤◌, List, leng
 use Rattle.name_walk.specs.declared.step.Step.{Step}
 use Rattle.name_walk.specs.declared.step.Step.TheVariants.{To}
 use Rattle.live_table.specs.declared.callee.Callee.{Callee}
-use Rattle.live_table.specs.Ranks.{greatest_step_rank}
+use Rattle.live_table.specs.Ranks.{greatest_node_step_rank}
 use Rattle.live_table.specs.TableContents.{node_lists}
 use Rattle.live_table.proofs.RankBounds.{rank_few, rank_is}
 use Rattle.live_table.proofs.settlement.rank_of.Goals as goal
@@ -31,9 +31,9 @@ overflow_add-result c =
     let few : c.greatest_rank.result + 1 ≤ 100000 =
     rank_few c.args.deck.now (node_lists c.args.nodes.now) c.requires.sound.0 c.args.n c.requires.sound.1 c.requires.due
     (sym c.requires.outcome ∙ c.in-Callable.is) c.greatest_rank.result
-    (c.greatest_rank.ensures ∙ (ap (λ (cs : List Callee). greatest_step_rank cs c.steps_of.result.now)
+    (c.greatest_rank.ensures ∙ (ap (λ (cs : List Callee). greatest_node_step_rank cs c.steps_of.result.now)
     c.deref.ensures.value
-    ∙ ap (greatest_step_rank (node_lists c.args.nodes.now).callees) c.steps_of.ensures.is))
+    ∙ ap (greatest_node_step_rank (node_lists c.args.nodes.now).callees) c.steps_of.ensures.is))
     c.tables_are_of_lines.ensures c.lines_few.ensures in
     omega (arith, few)
 
@@ -41,6 +41,6 @@ pub returns-in-Callable : goal.returns-in-Callable
 returns-in-Callable c =
     rank_is c.args.deck.now (node_lists c.args.nodes.now) c.requires.sound.0 c.args.n c.requires.sound.1 c.requires.due
     (sym c.requires.outcome ∙ c.in-Callable.is) c.greatest_rank.result
-    (c.greatest_rank.ensures ∙ (ap (λ (cs : List Callee). greatest_step_rank cs c.steps_of.result.now)
+    (c.greatest_rank.ensures ∙ (ap (λ (cs : List Callee). greatest_node_step_rank cs c.steps_of.result.now)
     c.deref.ensures.value
-    ∙ ap (greatest_step_rank (node_lists c.args.nodes.now).callees) c.steps_of.ensures.is))
+    ∙ ap (greatest_node_step_rank (node_lists c.args.nodes.now).callees) c.steps_of.ensures.is))

@@ -1,10 +1,10 @@
 use Rattle.std.proofs.Common.{◌≡◌, ◌<◌, ℕ, List, length, arith, sym, subst}
-use Rattle.deck.specs.Tables.{table}
-use Rattle.live_table.specs.TableEdges.{HasLateEdges}
-use Rattle.live_table.specs.TableContents.{Listed, node_lists}
-use Rattle.live_table.proofs.Flags.{count_room}
+use Rattle.deck.specs.Tables.{table_of_deck}
+use Rattle.live_table.specs.TableEdges.{HasLateSettledEdges}
+use Rattle.live_table.specs.TableContents.{NodeLists, node_lists}
+use Rattle.live_table.proofs.Flags.{unsettled_flag_leaves_room}
 use Rattle.live_table.proofs.OutcomesByKey.{settled_count}
-use Rattle.live_table.proofs.KnownFaults.{later_same, settled_later}
+use Rattle.live_table.proofs.KnownFaults.{no_more_names_settled, settled_name_is_one_more_settled}
 use Rattle.live_table.proofs.SettleOne.{IsPut, settled_nodes, settled_shown, settled_sound}
 use Rattle.live_table.proofs.StillExplored.{settled_explored}
 use Rattle.live_table.proofs.WaitingNames.{waiting_edges}
@@ -34,7 +34,8 @@ store_outcome-requires-clause-settled g c =
 
 pub store_outcome-requires-clause-room : goal.store_outcome-requires-clause-room
 store_outcome-requires-clause-room g c =
-    let a = count_room (node_lists c.args.nodes.now).settled_flags c.args.n c.requires.due.still_unsettled in
+    let a = unsettled_flag_leaves_room (node_lists c.args.nodes.now).settled_flags c.args.n
+    c.requires.due.still_unsettled in
     let b = c.requires.sound.numbers.count_right in
     let s = c.args.nodes.now.settled.ok.0 in
     omega (arith, a, b)
@@ -77,14 +78,15 @@ returns-clause-edges g c =
     c.requires.due c.in_ok-outcome.outcome c.rank_of-rank.result c.saturating_add.result
     (node_lists c.store_outcome.new.nodes)
     (is_put g (goal.at.returns-clause-edges g c).After-saturating_add) in
-    subst (λ (p : Listed × List ℕ). HasLateEdges c.args.deck.now p.0 p.1 c.args.edges.now.made)
+    subst (λ (p : NodeLists × List ℕ). HasLateSettledEdges c.args.deck.now p.0 p.1 c.args.edges.now.made)
     (λ i. (sym s.2 i, sym c.in_ok-push_back.ensures.items i))
     (waiting_edges c.args.deck.now (node_lists c.args.nodes.now) c.args.reductions.now c.args.n c.requires.sound
     c.requires.due c.args.edges.now.waiting.items c.args.edges.now.made c.requires.edges s.0 s.1)
 
 pub returns-clause-explored : goal.returns-clause-explored
 returns-clause-explored g c =
-    settled_explored (table c.args.deck.now) (node_lists c.args.nodes.now) (node_lists c.store_outcome.new.nodes)
+    settled_explored (table_of_deck c.args.deck.now) (node_lists c.args.nodes.now)
+    (node_lists c.store_outcome.new.nodes)
     c.args.n
     c.in_ok-outcome.outcome c.rank_of-rank.result
     (let a : c.args.n < length (node_lists c.args.nodes.now).keys = c.requires.due.in_table in
@@ -94,7 +96,8 @@ returns-clause-explored g c =
 
 pub returns-clause-later : goal.returns-clause-later
 returns-clause-later g c =
-    settled_later (node_lists c.args.nodes.now) (node_lists c.store_outcome.new.nodes) c.args.n c.in_ok-outcome.outcome
+    settled_name_is_one_more_settled (node_lists c.args.nodes.now) (node_lists c.store_outcome.new.nodes) c.args.n
+    c.in_ok-outcome.outcome
     c.rank_of-rank.result
     (let a : c.args.n < length (node_lists c.args.nodes.now).keys = c.requires.due.in_table in
     let b : length (node_lists c.args.nodes.now).callees ≡ length (node_lists c.args.nodes.now).keys =
@@ -102,7 +105,7 @@ returns-clause-later g c =
     c.store_outcome.ensures
 
 pub returns-in_err-outcome-clause-later : goal.returns-in_err-outcome-clause-later
-returns-in_err-outcome-clause-later g c = later_same (node_lists c.args.nodes.now)
+returns-in_err-outcome-clause-later g c = no_more_names_settled (node_lists c.args.nodes.now)
 
 pub returns-in_err-push_back-clause-later : goal.returns-in_err-push_back-clause-later
-returns-in_err-push_back-clause-later g c = later_same (node_lists c.args.nodes.now)
+returns-in_err-push_back-clause-later g c = no_more_names_settled (node_lists c.args.nodes.now)

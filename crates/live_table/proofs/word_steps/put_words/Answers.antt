@@ -2,10 +2,10 @@ use Rattle.std.proofs.Common.{Some, List, sym, ◌∙◌, ap, arith}
 use Rattle.std.specs.List.{slice_get}
 use Rattle.std.proofs.lemmas.Option.{slice_get-get_or}
 use Rattle.expr_tree.specs.declared.word_list.WordUse.{WordUse}
-use Rattle.deck.specs.Tables.{table}
+use Rattle.deck.specs.Tables.{table_of_deck}
 use Rattle.live_table.specs.TableContents.{node_lists}
-use Rattle.live_table.proofs.AddedNames.{added_both}
-use Rattle.live_table.proofs.WrittenSteps.{putting_next}
+use Rattle.live_table.proofs.AddedNames.{two_node_additions_are_one}
+use Rattle.live_table.proofs.WrittenSteps.{next_exploration_steps_are_put}
 use Rattle.live_table.proofs.word_steps.put_words.Goals as goal
 
 pub put_word-requires-clause-nodes : goal.put_word-requires-clause-nodes
@@ -16,7 +16,7 @@ put_word-requires-clause-listed c = c.loop-u.invariant.added.growth.list_right
 
 pub returns-in_err-put_word-clause-added : goal.returns-in_err-put_word-clause-added
 returns-in_err-put_word-clause-added c =
-    added_both (table c.args.deck.now) (node_lists c.args.nodes.now) (node_lists c.loop-u.nodes)
+    two_node_additions_are_one (table_of_deck c.args.deck.now) (node_lists c.args.nodes.now) (node_lists c.loop-u.nodes)
     (node_lists c.put_word.new.nodes)
     c.args.explored.now c.args.worklist.now c.loop-u.worklist c.put_word.new.worklist
     c.args.dead_ends.now.items c.loop-u.dead_ends.items c.put_word.new.dead_ends.items c.loop-u.invariant.added
@@ -24,7 +24,8 @@ returns-in_err-put_word-clause-added c =
 
 pub loop-u-preserved : goal.loop-u-preserved
 loop-u-preserved c =
-    putting_next (table c.args.deck.now) (node_lists c.args.nodes.now) (node_lists c.loop-u.nodes)
+    next_exploration_steps_are_put (table_of_deck c.args.deck.now) (node_lists c.args.nodes.now)
+    (node_lists c.loop-u.nodes)
     (node_lists c.put_word.new.nodes)
     c.args.explored.now c.args.worklist.now c.loop-u.worklist c.put_word.new.worklist
     c.args.dead_ends.now.items c.loop-u.dead_ends.items c.put_word.new.dead_ends.items c.loop-u.nodes.gathered

@@ -1,10 +1,10 @@
 use Rattle.std.proofs.Common.{ℕ, [], refl, arith, ◌∙◌}
-use Rattle.name_edges.specs.AffectedNames.{AreAffected}
-use Rattle.name_edges.specs.NameGraphs.{NameGraph}
+use Rattle.name_edges.specs.AffectedNames.{AreAffectedByEdges}
+use Rattle.name_edges.specs.NameGraphs.{NameEdgeGraph}
 use Rattle.name_edges.proofs.Cutting.{affected_by_both, affected_by_one, cleared_on, cut_on, in_alone}
 use Rattle.name_edges.proofs.laws.forgetting_law.Goals as goal
 
-no_key : (g : NameGraph) (n : ℕ) → AreAffected g [] n → ⊥
+no_key : (g : NameEdgeGraph) (n : ℕ) → AreAffectedByEdges g [] n → ⊥
 no_key g n (k, (i, l, e), a) = omega (arith, l)
 
 pub returns : goal.returns

@@ -1,6 +1,6 @@
 use Rattle.std.proofs.Common.{◌∙◌, arith}
 use Rattle.std.proofs.lemmas.List.Elements.{Contains-get_or}
-use Rattle.name_edges.proofs.Linked.{all_linked, one_linked}
+use Rattle.name_edges.proofs.Linked.{all_edges_are_added, one_more_edge_is_added}
 use Rattle.name_edges.proofs.user_edges.link_all.Goals as goal
 
 pub overflow_mul-key : goal.overflow_mul-key
@@ -27,7 +27,8 @@ loop-key-preserved c =
     let s = c.link.ensures.spare in
     let t = c.loop-key.invariant.spare in
     record {
-      edges = λ x y. one_linked c.args.remainder c.args.user c.args.keys.now c.loop-key.key-index c.loop-key-test.true
+      edges = λ x y. one_more_edge_is_added c.args.remainder c.args.user c.args.keys.now c.loop-key.key-index
+          c.loop-key-test.true
           c.args.links.now.edges c.loop-key.links.edges c.link.new.self.edges x y
           (c.loop-key.invariant.edges x y) (c.link.ensures.edges x y);
       spare = omega (arith, s, t);
@@ -36,5 +37,5 @@ loop-key-preserved c =
 
 pub returns-clause-edges : goal.returns-clause-edges
 returns-clause-edges c x y =
-    all_linked c.args.remainder c.args.user c.args.keys.now c.loop-key.key-index c.loop-key-test.false
+    all_edges_are_added c.args.remainder c.args.user c.args.keys.now c.loop-key.key-index c.loop-key-test.false
     c.args.links.now.edges c.loop-key.links.edges x y (c.loop-key.invariant.edges x y)

@@ -2,8 +2,8 @@ use Rattle.std.proofs.Common.{◌≡◌, ◌+◌, ◌<◌, ℕ, Bool, List, [], 
 use Rattle.std.proofs.Common.{Vec, Global}
 use Rattle.std.proofs.lemmas.List.{drop_all, drop_more}
 use Rattle.name_walk.specs.declared.traces.Frame.{Frame}
-use Rattle.name_walk.specs.Faults.{from_name}
-use Rattle.name_walk.specs.Traces.{path}
+use Rattle.name_walk.specs.Faults.{path_from_name}
+use Rattle.name_walk.specs.Traces.{path_of_frames}
 use Rattle.name_walk.proofs.Chains.{IsChaining, chaining_end, chaining_keep, chaining_pass}
 use Rattle.name_walk.proofs.chain.chain.Goals as goal
 use Rattle.name_walk.proofs.chain.chain.Goals.{then-is_below+in_ok-push, else-is_below}
@@ -17,7 +17,8 @@ next again last all names b fs i d l h =
 
 pub loop-frame-init : goal.loop-frame-init
 loop-frame-init c = record {
-  whole = ap (λ xs. xs ++ from_name c.args.again (path c.args.frames.now c.args.last)) c.new-names.ensures.items;
+  whole = ap (λ xs. xs ++ path_from_name c.args.again (path_of_frames c.args.frames.now c.args.last))
+      c.new-names.ensures.items;
   ahead = c.requires;
 }
 
@@ -38,7 +39,7 @@ pub returns : goal.returns
 returns c =
     let none : drop c.loop-frame.frame-index c.args.frames.now ≡ [] =
     drop_all c.loop-frame.frame-index c.args.frames.now (omega (arith, c.loop-frame-test.false)) in
-    let all : List ℕ = from_name c.args.again (path c.args.frames.now c.args.last) in
+    let all : List ℕ = path_from_name c.args.again (path_of_frames c.args.frames.now c.args.last) in
     let end : IsChaining c.args.again c.args.last all c.loop-frame.names.items c.loop-frame.is_below [] =
     subst (λ (rest : List Frame). IsChaining c.args.again c.args.last all c.loop-frame.names.items c.loop-frame.is_below
     rest) none

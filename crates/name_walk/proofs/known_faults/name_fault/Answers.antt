@@ -1,5 +1,5 @@
 use Rattle.std.proofs.Common.{rules}
-use Rattle.name_walk.proofs.Rings.{dead_end_of, end_of, ring_named, ring_of}
+use Rattle.name_walk.proofs.Rings.{dead_end_of, end_of, ring_of, walk_ring_names_are_of_its_way}
 use Rattle.name_walk.proofs.known_faults.name_fault.Goals as goal
 
 pub known_step-end-requires : goal.known_step-end-requires
@@ -26,7 +26,7 @@ returns-in-Nowhere c =
 pub returns-in_ok-names-in-To : goal.returns-in_ok-names-in-To
 returns-in_ok-names-in-To c =
     let r = c.in_ok-names-in-To.ensures.names in
-    ring_named c.args.faults.now c.args.name c.known_step-end.result.end c.in-To.first r.0
+    walk_ring_names_are_of_its_way c.args.faults.now c.args.name c.known_step-end.result.end c.in-To.first r.0
     c.in_ok-names-in-To.names.items
     (ring_of c.args.faults.now c.requires.trails c.args.name c.known_step-end.result c.known_step-end.ensures
     c.known_step.result c.known_step.ensures c.in-To.first c.in-To.is) r.1 r.2

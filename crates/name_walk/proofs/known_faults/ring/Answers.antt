@@ -1,10 +1,10 @@
 use Rattle.std.proofs.Common.{◌≡◌, ◌+◌, ◌<◌, ℕ, List, [], ◌∷◌, ◌++◌, length, ap, arith, ◌∙◌, length-append}
-use Rattle.name_walk.proofs.RingPass.{ringing_leads, ringing_next, ringing_room, ringing_start, ringing_way}
+use Rattle.name_walk.proofs.RingPass.{ringing_leads, ringing_next, ringing_room, ringing_way, walk_ring_starts}
 use Rattle.name_walk.proofs.known_faults.ring.Goals as goal
 
 pub loop-here-init : goal.loop-here-init
 loop-here-init c =
-    ringing_start c.args.faults.now c.args.end c.args.first c.requires.ring.0 c.push.new.self.items c.requires.ring.1
+    walk_ring_starts c.args.faults.now c.args.end c.args.first c.requires.ring.0 c.push.new.self.items c.requires.ring.1
     (c.in_ok-push.ensures.items ∙ ap (λ (ns : List ℕ). ns ++ c.args.end ∷ []) c.new-names.ensures.items)
 
 pub next-here-requires : goal.next-here-requires

@@ -1,5 +1,5 @@
-use Rattle.name_walk.proofs.Faults.{fault_law_holds}
+use Rattle.name_walk.proofs.Faults.{walk_steps_fault_law_holds}
 use Rattle.name_walk.proofs.laws.fault_law.Goals as goal
 
 pub returns : goal.returns
-returns c = fault_law_holds
+returns c = walk_steps_fault_law_holds

@@ -1,6 +1,6 @@
 use Rattle.std.proofs.Common.{◌+◌, ◌<◌, ◌≤◌, ℕ, List, length, arith, get_or, set, None, subst, sym, ◌∙◌, Contains}
 use Rattle.std.proofs.lemmas.Option.{slice_get-get_or}
-use Rattle.name_walk.proofs.ClearedFaults.{IsClearing, clearing_end, clearing_next}
+use Rattle.name_walk.proofs.ClearedFaults.{IsClearing, clearing_next, walk_clearing_leaves_no_fault}
 use Rattle.name_walk.proofs.search.clear.Goals as goal
 use Rattle.general_lemmas.proofs.Members.{member_at}
 
@@ -28,7 +28,8 @@ loop-name-preserved c =
 pub returns-clause-faults : goal.returns-clause-faults
 returns-clause-faults c =
     let test = c.loop-name-test.false in
-    clearing_end c.args.traces.now.entered_names c.args.faults.now.items c.loop-name.faults.items c.loop-name.name-index
+    walk_clearing_leaves_no_fault c.args.traces.now.entered_names c.args.faults.now.items c.loop-name.faults.items
+    c.loop-name.name-index
     c.loop-name.invariant
     (subst (λ (es : List ℕ). length es ≤ c.loop-name.name-index) c.entered_names-name-items.ensures
     (omega (arith, test)))

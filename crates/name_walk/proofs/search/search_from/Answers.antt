@@ -1,14 +1,15 @@
 use Rattle.std.proofs.Common.{rules, List, ℕ, subst}
 use Rattle.std.specs.Result.{IfOk}
 use Rattle.std.proofs.lemmas.Result.{IfOk-weaker}
-use Rattle.name_walk.specs.Findings.{AreFromQuery}
-use Rattle.name_walk.proofs.UnknownNames.{covered_between, covered_clear, faults_same}
+use Rattle.name_walk.specs.Findings.{AreWalkedFromQuery}
+use Rattle.name_walk.proofs.UnknownNames.{covered_between, covered_clear, walk_faults_cover_themselves}
 use Rattle.name_walk.proofs.search.search_from.Goals as goal
 
 pub returns-in_err-cover_marks-clause-can_clear : goal.returns-in_err-cover_marks-clause-can_clear
 returns-in_err-cover_marks-clause-can_clear c =
     covered_clear c.args.traces.now c.cover_marks.new.traces c.args.faults.now.items c.args.faults.now.items
-    c.in_err-cover_marks.ensures.covered (faults_same c.args.faults.now.items) c.requires.consistent.can_clear
+    c.in_err-cover_marks.ensures.covered (walk_faults_cover_themselves c.args.faults.now.items)
+    c.requires.consistent.can_clear
 
 pub returns-in_err-cover_marks-clause-consistent : goal.returns-in_err-cover_marks-clause-consistent
 returns-in_err-cover_marks-clause-consistent c = search rules
@@ -63,7 +64,7 @@ returns-clause-right c = IfOk-weaker c.search_query.result _ _ (λ _ b. b.findin
 
 pub returns-clause-names : goal.returns-clause-names
 returns-clause-names c =
-    subst (λ (es : List ℕ). IfOk c.search_query.result (λ _. AreFromQuery c.args.net.now.steps.now
+    subst (λ (es : List ℕ). IfOk c.search_query.result (λ _. AreWalkedFromQuery c.args.net.now.steps.now
     c.args.net.now.settled.now c.args.query.now es c.search_query.new.traces.entered_names))
     c.in_ok-cover_marks.ensures.covered.names c.search_query.ensures.names
 

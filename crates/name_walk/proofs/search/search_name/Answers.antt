@@ -1,14 +1,13 @@
 use Rattle.std.proofs.Common.{rules, arith, ◌≡◌, ◌+◌, ◌<◌, ◌≤◌, ◌^◌, ℕ, zero, suc, Bool, false, List, [], ◌∷◌, Option}
-use Rattle.std.proofs.Common.{Some, None}
-use Rattle.std.proofs.Common.{length, refl, sym, ap, subst, ◌∙◌, Vec, Global}
+use Rattle.std.proofs.Common.{Some, None, length, refl, sym, ap, subst, ◌∙◌, Vec, Global}
 use Rattle.std.specs.List.{slice_get}
 use Rattle.std.proofs.lemmas.Option.{slice_get_within}
 use Rattle.name_walk.specs.declared.mark.Mark.{Mark}
 use Rattle.name_walk.specs.declared.traces.Frame.{Frame}
 use Rattle.name_walk.specs.declared.trail.FaultyStep.{FaultyStep}
-use Rattle.name_walk.specs.Findings.{CanClear}
-use Rattle.name_walk.specs.Searches.{IsEnding, IsOpen, IsSearched}
-use Rattle.name_walk.specs.Traces.{Trace}
+use Rattle.name_walk.specs.Findings.{CanClearWalk}
+use Rattle.name_walk.specs.Searches.{IsOpenForWalk, IsPathEnding, IsSearchedByWalk}
+use Rattle.name_walk.specs.Traces.{WalkTrace}
 use Rattle.name_walk.proofs.Moves.{weight_at}
 use Rattle.name_walk.proofs.SearchMoves.{IsSeekingAt, begin_seek, clear_closed, clear_seek, enter_seek, finish_seek}
 use Rattle.name_walk.proofs.SearchMoves.{enter_less_seek, fault_clear_seek, fault_seek, leave_less_seek, leave_seek}
@@ -31,7 +30,8 @@ enter-requires c = slice_get_within _ _ _ c.requires.fresh.mark
 
 pub returns-in_err-enter-clause-can_clear : goal.returns-in_err-enter-clause-can_clear
 returns-in_err-enter-clause-can_clear c =
-    subst (λ (t : Trace). CanClear t.marks t.entered_names c.args.faults.now.items) (sym c.in_err-enter.ensures.err)
+    subst (λ (t : WalkTrace). CanClearWalk t.marks t.entered_names c.args.faults.now.items)
+    (sym c.in_err-enter.ensures.err)
     c.requires.between.consistent.can_clear
 
 pub returns-in_err-enter-clause-found : goal.returns-in_err-enter-clause-found
@@ -55,7 +55,7 @@ close-requires c =
 
 pub returns-in_err-close-clause-can_clear : goal.returns-in_err-close-clause-can_clear
 returns-in_err-close-clause-can_clear c =
-    subst (λ (v : Vec (Option FaultyStep) Global). CanClear c.close.new.self.marks c.close.new.self.entered_names
+    subst (λ (v : Vec (Option FaultyStep) Global). CanClearWalk c.close.new.self.marks c.close.new.self.entered_names
     v.items)
     (sym c.loop-step.invariant.same)
     (clear_seek c.requires.net c.loop-step.invariant.go c.close.new.self c.in_err-close.ensures.err)
@@ -65,14 +65,15 @@ returns-in_err-close-clause-found c = search rules
 
 pub returns-in_default-pop-clause-can_clear : goal.returns-in_default-pop-clause-can_clear
 returns-in_default-pop-clause-can_clear c =
-    subst (λ (v : Vec (Option FaultyStep) Global). CanClear c.pop.new.self.marks c.pop.new.self.entered_names v.items)
+    subst (λ (v : Vec (Option FaultyStep) Global). CanClearWalk c.pop.new.self.marks c.pop.new.self.entered_names
+    v.items)
     (sym c.loop-step.invariant.same)
     (clear_closed c.requires.net c.loop-step.invariant.go (none_full _ _ c.step.ensures.step c.in_default.is)
     c.in_ok-close.ensures.ok c.pop.new.self c.in_default-pop.ensures.0)
 
 pub returns-in_default-pop-clause-found : goal.returns-in_default-pop-clause-found
 returns-in_default-pop-clause-found c =
-    subst (λ (v : Vec (Option FaultyStep) Global). IsSearched c.args.net.now.steps.now c.args.net.now.settled.now
+    subst (λ (v : Vec (Option FaultyStep) Global). IsSearchedByWalk c.args.net.now.steps.now c.args.net.now.settled.now
     c.args.start c.args.traces.now c.pop.new.self c.args.faults.now.items v.items false)
     (sym c.loop-step.invariant.same)
     (finish_seek c.requires.net c.loop-step.invariant.go (none_full _ _ c.step.ensures.step c.in_default.is)
@@ -137,7 +138,8 @@ loop-step-smaller-in-Sound c =
 
 pub returns-in_err-push-in-Open-clause-can_clear : goal.returns-in_err-push-in-Open-clause-can_clear
 returns-in_err-push-in-Open-clause-can_clear c =
-    subst (λ (v : Vec (Option FaultyStep) Global). CanClear c.push.new.self.marks c.push.new.self.entered_names v.items)
+    subst (λ (v : Vec (Option FaultyStep) Global). CanClearWalk c.push.new.self.marks c.push.new.self.entered_names
+    v.items)
     (sym c.loop-step.invariant.same)
     (clear_seek c.requires.net c.loop-step.invariant.go c.push.new.self c.in_err-push-in-Open.ensures.err)
 
@@ -156,20 +158,21 @@ note_path-requires-clause-there c n i =
 abbrev items_of : Vec (Option FaultyStep) Global → List (Option FaultyStep)
 items_of v = v.items
 
-open_there : {s : List Bool} {ms : List Mark} {fs hs : List (Option FaultyStep)} {m : ℕ} → hs ≡ fs → IsOpen s ms hs m
-    → IsOpen s ms fs m
-open_there {s} {ms} {m = m} e o = subst (λ (xs : List (Option FaultyStep)). IsOpen s ms xs m) e o
+open_there : {s : List Bool} {ms : List Mark} {fs hs : List (Option FaultyStep)} {m : ℕ} → hs ≡ fs
+    → IsOpenForWalk s ms hs m
+    → IsOpenForWalk s ms fs m
+open_there {s} {ms} {m = m} e o = subst (λ (xs : List (Option FaultyStep)). IsOpenForWalk s ms xs m) e o
 
 pub enter-requires-in-Open : goal.enter-requires-in-Open
 enter-requires-in-Open c =
-    subst (λ (t : Trace). c.in-Open.next < length t.marks) (sym c.in_ok-push-in-Open.ensures.ok)
+    subst (λ (t : WalkTrace). c.in-Open.next < length t.marks) (sym c.in_ok-push-in-Open.ensures.ok)
     (slice_get_within _ _ _ c.in-Open.ensures.1.mark)
 
 pub returns-in_err-enter-in-Open-clause-can_clear : goal.returns-in_err-enter-in-Open-clause-can_clear
 returns-in_err-enter-in-Open-clause-can_clear c =
-    subst (λ (v : Vec (Option FaultyStep) Global). CanClear c.enter-in-Open.new.self.marks
+    subst (λ (v : Vec (Option FaultyStep) Global). CanClearWalk c.enter-in-Open.new.self.marks
     c.enter-in-Open.new.self.entered_names v.items) (sym c.loop-step.invariant.same)
-    (subst (λ (t : Trace). CanClear t.marks t.entered_names c.args.faults.now.items)
+    (subst (λ (t : WalkTrace). CanClearWalk t.marks t.entered_names c.args.faults.now.items)
     (sym (c.in_err-enter-in-Open.ensures.err ∙ c.in_ok-push-in-Open.ensures.ok))
     (clear_seek c.requires.net c.loop-step.invariant.go c.loop-step.traces refl))
 
@@ -200,7 +203,7 @@ returns-in-Faulty-clause-can_clear c =
     let same = ap items_of c.loop-step.invariant.same in
     fault_clear_seek c.requires.net c.loop-step.invariant.go c.note_path.new.faults.items c.in-Some.step
     c.in-Faulty.ending (sym c.step.ensures.step ∙ c.in-Some.is)
-    (subst (λ (xs : List (Option FaultyStep)). IsEnding c.loop-step.traces.marks xs c.loop-step.here.name
+    (subst (λ (xs : List (Option FaultyStep)). IsPathEnding c.loop-step.traces.marks xs c.loop-step.here.name
     c.in-Some.step c.in-Faulty.ending) (c.deref.ensures.value ∙ same) c.in-Faulty.ensures)
     c.note_path.ensures.noted
     (λ n out. c.note_path.ensures.others n out ∙ ap (λ (xs : List (Option FaultyStep)). slice_get xs n) same)
@@ -212,7 +215,7 @@ returns-in-Faulty-clause-found c =
     let same = ap items_of c.loop-step.invariant.same in
     fault_seek c.requires.net c.loop-step.invariant.go c.note_path.new.faults.items c.in-Some.step
     c.in-Faulty.ending (sym c.step.ensures.step ∙ c.in-Some.is)
-    (subst (λ (xs : List (Option FaultyStep)). IsEnding c.loop-step.traces.marks xs c.loop-step.here.name
+    (subst (λ (xs : List (Option FaultyStep)). IsPathEnding c.loop-step.traces.marks xs c.loop-step.here.name
     c.in-Some.step c.in-Faulty.ending) (c.deref.ensures.value ∙ same) c.in-Faulty.ensures)
     c.note_path.ensures.noted
     (λ n out. c.note_path.ensures.others n out ∙ ap (λ (xs : List (Option FaultyStep)). slice_get xs n) same)

@@ -1,13 +1,12 @@
-use Rattle.std.proofs.Common.{rules, arith, ◌≡◌, ◌<◌, ℕ, Bool, List, Some, get_or, length, sym, ap, subst}
-use Rattle.std.proofs.Common.{◌∙◌}
+use Rattle.std.proofs.Common.{rules, arith, ◌≡◌, ◌<◌, ℕ, Bool, List, Some, get_or, length, sym, ap, subst, ◌∙◌}
 use Rattle.std.specs.List.{slice_get}
 use Rattle.std.proofs.lemmas.Option.{slice_get-get_or}
 use Rattle.name_walk.specs.declared.step.Step.{Step}
 use Rattle.name_walk.specs.declared.step.Step.TheVariants.{Nowhere, To}
-use Rattle.name_walk.specs.Findings.{IsFirstFaulty}
-use Rattle.name_walk.specs.Searches.{IsSearched}
+use Rattle.name_walk.specs.Findings.{IsFirstFaultyWalkStep}
+use Rattle.name_walk.specs.Searches.{IsSearchedByWalk}
 use Rattle.name_walk.specs.Steps.{Graph, StayInGraph}
-use Rattle.name_walk.specs.Traces.{Trace}
+use Rattle.name_walk.specs.Traces.{WalkTrace}
 use Rattle.name_walk.specs.Trails.{Faults}
 use Rattle.name_walk.proofs.SearchPasses.{faulty_names, passed_faulty, passed_names, passed_next, passed_none}
 use Rattle.name_walk.proofs.SearchPasses.{passed_nowhere, passed_whole}
@@ -22,10 +21,10 @@ known : (g : Graph) (query : List Step) (i n : ℕ) → StayInGraph g query → 
     → get_or query i (Nowhere 0) ≡ To n → n < length g
 known g query i n are_known l e = are_known n (member_at _ _ _ (read query i (Nowhere 0) l e))
 
-searched_as : {g : Graph} {s : List Bool} {n : ℕ} {now later : Trace} {fs hs : Faults} {a b : Bool} → a ≡ b
-    → IsSearched g s n now later fs hs a → IsSearched g s n now later fs hs b
+searched_as : {g : Graph} {s : List Bool} {n : ℕ} {now later : WalkTrace} {fs hs : Faults} {a b : Bool} → a ≡ b
+    → IsSearchedByWalk g s n now later fs hs a → IsSearchedByWalk g s n now later fs hs b
 searched_as {g} {s} {n} {now} {later} {fs} {hs} e h =
-    subst (λ (c : Bool). IsSearched g s n now later fs hs c) e h
+    subst (λ (c : Bool). IsSearchedByWalk g s n now later fs hs c) e h
 
 pub loop-step-init : goal.loop-step-init
 loop-step-init c = passed_none _ _ c.requires.net _ _ c.requires.between
@@ -43,7 +42,8 @@ returns-in-Nowhere-clause-names c =
 
 pub returns-in-Nowhere-clause-found : goal.returns-in-Nowhere-clause-found
 returns-in-Nowhere-clause-found c =
-    subst (λ (x : Step). IsFirstFaulty c.args.net.now.steps.now c.args.query.now c.loop-step.faults.items (Some x))
+    subst (λ (x : Step). IsFirstFaultyWalkStep c.args.net.now.steps.now c.args.query.now c.loop-step.faults.items
+    (Some x))
     (sym c.in-Nowhere.is)
     (passed_nowhere _ _ c.requires.net c.args.query.now c.loop-step.step-index c.args.traces.now c.loop-step.traces
     c.loop-step.faults.items c.loop-step.invariant c.in-Nowhere.field-0

@@ -2,8 +2,8 @@ use Rattle.std.proofs.Common.{◌≡◌, ◌<◌, ℕ, Some, set, sym, subst}
 use Rattle.std.specs.List.{slice_get}
 use Rattle.name_walk.specs.declared.step.Step.TheVariants.{To}
 use Rattle.name_walk.specs.declared.trail.Ending.{Ending}
-use Rattle.name_walk.specs.PathRecords.{AreNoted}
-use Rattle.name_walk.specs.Traces.{path}
+use Rattle.name_walk.specs.PathRecords.{ArePathFaultsNoted}
+use Rattle.name_walk.specs.Traces.{path_of_frames}
 use Rattle.name_walk.proofs.PathFaultRecords.{IsNoting, noting_all, noting_next, noting_others, noting_there}
 use Rattle.name_walk.proofs.trail.note_path.Goals as goal
 
@@ -16,9 +16,9 @@ index_mut-requires c =
 
 pub returns-in_default-clause-noted : goal.returns-in_default-clause-noted
 returns-in_default-clause-noted c =
-    subst (λ (e : ℕ). AreNoted (set c.loop-frame.faults.items c.loop-frame.name
+    subst (λ (e : ℕ). ArePathFaultsNoted (set c.loop-frame.faults.items c.loop-frame.name
     (Some (record { step = c.loop-frame.step; end = e }))) c.args.last_ending c.args.last_step
-    (path c.args.traces.now.frames c.args.last)) (sym c.end-end.ensures)
+    (path_of_frames c.args.traces.now.frames c.args.last)) (sym c.end-end.ensures)
     (noting_all c.args.traces.now c.args.faults.now.items c.args.last c.args.last_step c.args.last_ending
     c.requires.once c.requires.there c.loop-frame.traces c.loop-frame.faults.items c.loop-frame.name
     c.loop-frame.step c.loop-frame.ending c.loop-frame.invariant c.in_default.ensures.1)

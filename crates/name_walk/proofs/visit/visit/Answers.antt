@@ -2,7 +2,7 @@ use Rattle.std.proofs.Common.{rules, arith, ◌≡◌, ◌+◌, ◌<◌, ◌≤�
 use Rattle.std.proofs.Common.{length, refl, sym, ap, subst, ◌∙◌}
 use Rattle.std.specs.List.{slice_get}
 use Rattle.name_walk.specs.declared.traces.Frame.{Frame}
-use Rattle.name_walk.specs.Traces.{Trace}
+use Rattle.name_walk.specs.Traces.{WalkTrace}
 use Rattle.name_walk.proofs.Moves.{IsGoingAt, begin_at, cycle_at, dead_end_at, enter_at, entered_at, finish_at}
 use Rattle.name_walk.proofs.Moves.{is_on_at, leave_at, leave_less_at, next_at, pass_at, room_at, there_at, weight_at}
 use Rattle.name_walk.proofs.visit.visit.Goals as goal
@@ -109,7 +109,7 @@ returns-in-OnPath-clause-visited c =
 
 pub enter-requires-in-Open : goal.enter-requires-in-Open
 enter-requires-in-Open c =
-    subst (λ (t : Trace). c.in-Some-To.next < length t.marks) (sym c.in_ok-push-in-Open.ensures.ok)
+    subst (λ (t : WalkTrace). c.in-Some-To.next < length t.marks) (sym c.in_ok-push-in-Open.ensures.ok)
     (next_at c.requires.net c.loop-traces.invariant c.in-Some-To.next
     (step_is c.step.ensures.step c.in-Some-To.is c.in-Some-To.field-0-is)).2
 

@@ -7,8 +7,9 @@ use Rattle.name_walk.specs.declared.step.Step.{Step}
 use Rattle.name_walk.specs.declared.step.Step.TheVariants.{Nowhere, To}
 use Rattle.name_walk.specs.Faults.{DeadEnd}
 use Rattle.name_walk.specs.Steps.{Graph, StayInGraph}
-use Rattle.name_walk.specs.Walks.{fault_view}
-use Rattle.name_walk.proofs.QueryPasses.{all_passed, fault_next, found_closed, next_done, next_visit, passed_start}
+use Rattle.name_walk.specs.Walks.{walk_fault_view}
+use Rattle.name_walk.proofs.QueryPasses.{all_walk_steps_are_passed, next_done, next_step_fault_is_walk_fault}
+use Rattle.name_walk.proofs.QueryPasses.{next_visit, no_walk_step_passed_at_start, walk_finds_closed_name}
 use Rattle.name_walk.proofs.walk.visit_each.Goals as goal
 use Rattle.general_lemmas.proofs.Members.{member_at}
 
@@ -27,11 +28,16 @@ at_none : (r : Option Fault) (P : Type 0) (Q : Fault → Type 0) → MatchOption
 at_none r P Q m e = subst (λ (o : Option Fault). MatchOption o P Q) e m
 
 pub loop-step-init : goal.loop-step-init
-loop-step-init c = record { passed = passed_start _ _ _ c.requires.between c.requires.nothing; size = refl }
+loop-step-init c = record {
+  passed = no_walk_step_passed_at_start _ _ _ c.requires.between c.requires.nothing;
+  size =
+      refl;
+}
 
 pub returns-in-Nowhere-clause-visited : goal.returns-in-Nowhere-clause-visited
 returns-in-Nowhere-clause-visited c =
-    fault_next _ c.args.query.now c.loop-step.step-index (Nowhere c.in-Nowhere.word) (DeadEnd c.in-Nowhere.word None)
+    next_step_fault_is_walk_fault _ c.args.query.now c.loop-step.step-index (Nowhere c.in-Nowhere.word)
+    (DeadEnd c.in-Nowhere.word None)
     c.loop-step.invariant.passed.none (read _ _ _ c.loop-step-test.true c.in-Nowhere.is) refl
 
 pub mark_of-requires-clause-settled : goal.mark_of-requires-clause-settled
@@ -47,7 +53,8 @@ mark_of-requires-clause-marked c =
 pub loop-step-preserved-in_default : goal.loop-step-preserved-in_default
 loop-step-preserved-in_default c =
     let off = c.loop-step.invariant.passed.between.off_path c.in-To.start in
-    let found = found_closed c.args.net.now.settled.now c.loop-step.traces.marks c.in-To.start c.mark_of.result
+    let found = walk_finds_closed_name c.args.net.now.settled.now c.loop-step.traces.marks c.in-To.start
+    c.mark_of.result
     c.mark_of.ensures
     c.in_default.not-Open off in
     record {
@@ -59,7 +66,8 @@ loop-step-preserved-in_default c =
 
 pub returns-in-Some-clause-visited : goal.returns-in-Some-clause-visited
 returns-in-Some-clause-visited c =
-    fault_next _ c.args.query.now c.loop-step.step-index (To c.in-To.start) (fault_view c.in-Some.fault)
+    next_step_fault_is_walk_fault _ c.args.query.now c.loop-step.step-index (To c.in-To.start)
+    (walk_fault_view c.in-Some.fault)
     c.loop-step.invariant.passed.none (read _ _ _ c.loop-step-test.true c.in-To.is)
     (at_some _ _ _ _ c.in_ok-fault.ensures.visited c.in-Some.is)
 
@@ -73,6 +81,6 @@ loop-step-preserved c = record {
 
 pub returns-clause-visited : goal.returns-clause-visited
 returns-clause-visited c =
-    all_passed _ _ c.requires.net c.args.query.now c.loop-step.step-index c.loop-step.traces
+    all_walk_steps_are_passed _ _ c.requires.net c.args.query.now c.loop-step.step-index c.loop-step.traces
     c.loop-step.invariant.passed
     (omega (arith, c.loop-step-test.false))

@@ -1,13 +1,13 @@
 use Rattle.std.proofs.Common.{refl}
 use Rattle.frac128.specs.Divisors.{gcd, gcd_within, lcm}
 use Rattle.frac128.specs.Steps.{lowest_terms}
-use Rattle.piecewise.specs.Lines.{on_line}
-use Rattle.piecewise.specs.Points.{rises}
-use Rattle.piecewise.specs.Tables.{x_at, y_at}
+use Rattle.piecewise.specs.Lines.{y_on_line_of_points}
+use Rattle.piecewise.specs.Points.{points_rise}
+use Rattle.piecewise.specs.Tables.{x_at_y_on_points, y_at_x_on_points}
 use Rattle.piecewise.proofs.examples.table_examples.Goals as goal
 
 pub returns : goal.returns
-unfolding gcd gcd_within lcm lowest_terms on_line rises x_at y_at
+unfolding gcd gcd_within lcm lowest_terms y_on_line_of_points points_rise x_at_y_on_points y_at_x_on_points
 returns c = record {
   gauge_rises = refl;
   one_point = refl;

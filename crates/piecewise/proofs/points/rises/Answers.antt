@@ -1,8 +1,8 @@
 use Rattle.std.proofs.Common.{◌-◌, arith, sym, ◌∙◌}
 use Rattle.std.proofs.lemmas.List.{take_all}
 use Rattle.std.proofs.lemmas.List.Elements.{All-same}
-use Rattle.piecewise.proofs.FirstSegments.{IsKnown, known_more}
-use Rattle.piecewise.proofs.Neighbours.{AreNeighbours, rises-last, rises-on, rises-stop}
+use Rattle.piecewise.proofs.FirstSegments.{IsKnown, known_points_more}
+use Rattle.piecewise.proofs.Neighbours.{AreNeighbours, points_rise-last, points_rise-on, points_rise-stop}
 use Rattle.piecewise.proofs.points.rises.Goals as goal
 
 pub returns-then-not-is_less-clause-value : goal.returns-then-not-is_less-clause-value
@@ -14,7 +14,7 @@ returns-then-not-is_less-clause-value c =
       left = c.index-points-i.is;
       right = c.index-points-i-in-loop-i.is;
     } in
-    rises-stop _ _ _ _ c.is_less.result are c.is_less.ensures.order c.if-not-is_less.true c.loop-i.invariant.rest
+    points_rise-stop _ _ _ _ c.is_less.result are c.is_less.ensures.order c.if-not-is_less.true c.loop-i.invariant.rest
 
 pub loop-i-preserved : goal.loop-i-preserved
 loop-i-preserved c =
@@ -26,13 +26,15 @@ loop-i-preserved c =
       right = c.index-points-i-in-loop-i.is;
     } in
     record {
-      rest = rises-on _ _ _ _ c.is_less.result are c.is_less.ensures.order c.if-not-is_less.false
+      rest = points_rise-on _ _ _ _ c.is_less.result are c.is_less.ensures.order c.if-not-is_less.false
           c.loop-i.invariant.rest;
-      denominators = λ more. known_more _ _ _ _ are c.loop-i.invariant.denominators c.is_less.ensures.denominators;
+      denominators = λ more. known_points_more _ _ _ _ are c.loop-i.invariant.denominators
+          c.is_less.ensures.denominators;
     }
 
 pub returns-clause-value : goal.returns-clause-value
-returns-clause-value c = sym (rises-last c.args.points.now (c.loop-i.i - 1) (omega arith)) ∙ c.loop-i.invariant.rest
+returns-clause-value c = sym (points_rise-last c.args.points.now (c.loop-i.i - 1) (omega arith))
+    ∙ c.loop-i.invariant.rest
 
 pub returns-clause-denominators : goal.returns-clause-denominators
 returns-clause-denominators c =

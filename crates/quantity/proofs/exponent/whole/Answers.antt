@@ -1,14 +1,19 @@
 use Rattle.std.proofs.Common.{◌≤◌, arith, ℤ, unsigned_abs, SFits}
 use mir.Syntax.{w32}
 use Rattle.std.proofs.lemmas.Int.{ints, to_z-of_z}
-use Rattle.frac128.specs.Fraction.{whole}
+use Rattle.frac128.specs.Fraction.{whole_fraction}
 use Rattle.quantity.specs.Exponents.{IsExponent}
-use Rattle.quantity.proofs.Fractions.{whole_reduced}
+use Rattle.quantity.proofs.Fractions.{whole_exponent_is_reduced}
 use Rattle.quantity.proofs.exponent.whole.Goals as goal
 
 -- a whole number in range is an exponent
-exponent_whole : (n : ℤ) → unsigned_abs n ≤ 32767 → IsExponent (whole n)
-exponent_whole n fits = record { exponent_reduced = whole_reduced n; num_fits = fits; den_fits = omega arith }
+exponent_whole : (n : ℤ) → unsigned_abs n ≤ 32767 → IsExponent (whole_fraction n)
+exponent_whole n fits = record {
+  exponent_reduced = whole_exponent_is_reduced n;
+  num_fits = fits;
+  den_fits =
+      omega arith;
+}
 
 pub invariant_of-result : goal.invariant_of-result
 invariant_of-result c =

@@ -1,13 +1,13 @@
 use Rattle.std.proofs.Common.{refl}
 use Rattle.std.specs.Fmt.{digits}
 use Rattle.frac128.specs.Divisors.{gcd, gcd_within}
-use Rattle.frac128.specs.Roots.{root_of}
+use Rattle.frac128.specs.Roots.{fraction_root}
 use Rattle.frac128.specs.Steps.{lowest_terms}
-use Rattle.quantity.specs.Examples.{PowersLaw, TextsLaw}
+use Rattle.quantity.specs.Examples.{QuantityPowersLaw, QuantityTextsLaw}
 use Rattle.quantity.proofs.laws.examples_law.Goals as goal
 
-powers : PowersLaw
-unfolding gcd gcd_within lowest_terms root_of
+powers : QuantityPowersLaw
+unfolding gcd gcd_within lowest_terms fraction_root
 powers = record {
   root = refl;
   negative_power = refl;
@@ -19,7 +19,7 @@ powers = record {
   out_of_range = refl;
 }
 
-texts : TextsLaw
+texts : QuantityTextsLaw
 unfolding digits
 texts = record { no_units = refl; whole_powers = refl; under = refl; only_under = refl; root = refl }
 

@@ -5,11 +5,11 @@ use Rattle.quantity.specs.Factors.{exponent_in}
 use Rattle.quantity.specs.Merges.{as_exponent}
 use Rattle.quantity.specs.Places.{power_place}
 use Rattle.quantity.specs.declared.power_merge.Place.TheVariants.{At, Before}
-use Rattle.quantity.proofs.Copies.{all_fit}
+use Rattle.quantity.proofs.Copies.{program_exponents_in_range}
 use Rattle.quantity.proofs.Ranges.{exponent_passes}
 use Rattle.quantity.proofs.Names.{Name}
 use Rattle.quantity.proofs.Places.{before_within, one_place, place_within, put_before, put_fault, put_sum, put_zero}
-use Rattle.quantity.proofs.Steps.{factor_step}
+use Rattle.quantity.proofs.Steps.{factor_exponent_step}
 use Rattle.quantity.proofs.power_merge.join.Goals as goal
 
 pub insert-requires : goal.insert-requires
@@ -54,10 +54,11 @@ returns-in_ok-insert-in-Before c =
     let taken : c.exponent-exponent.result ≡ exponent_in c.args.factor power.1 =
     c.exponent-exponent.ensures ∙ ap (exponent_in c.args.factor) c.exponent.ensures in
     let fits : is_exponent (exponent_in c.args.factor power.1) ≡ true =
-    (factor_step c.args.factor).fits power.1 ∙ exponent_passes power.1 c.requires.power.exponent in
+    (factor_exponent_step c.args.factor).fits power.1 ∙ exponent_passes power.1 c.requires.power.exponent in
     put_before step power old c.in-Before.index place c.insert.new.self.items _
     c.in_ok-insert-in-Before.ensures.items
-    (c.in_ok-with-in-Before.ensures ∙ ap (λ e. (power.0, e)) taken) (all_fit old c.requires.list) fits
+    (c.in_ok-with-in-Before.ensures ∙ ap (λ e. (power.0, e)) taken) (program_exponents_in_range old c.requires.list)
+    fits
 
 pub returns-in_default : goal.returns-in_default
 returns-in_default c =
@@ -71,7 +72,8 @@ returns-in_default c =
     c.in_default.ensures
     ∙ ap (λ e. as_exponent (exponent_sum e c.exponent-exponent.result)) c.exponent-in-At.ensures in
     put_fault (exponent_in c.args.factor) power old c.in-At.index place c.index.result.now c.exponent-exponent.result
-    c.index.ensures taken c.reduced_law.ensures (factor_step c.args.factor) c.requires.list c.requires.power answer
+    c.index.ensures taken c.reduced_law.ensures (factor_exponent_step c.args.factor) c.requires.list c.requires.power
+    answer
 
 pub returns-then-is_zero : goal.returns-then-is_zero
 returns-then-is_zero c =
@@ -86,7 +88,7 @@ returns-then-is_zero c =
     ∙ ap (λ e. as_exponent (exponent_sum e c.exponent-exponent.result)) c.exponent-in-At.ensures in
     put_zero (exponent_in c.args.factor) power old c.in-At.index place c.index.result.now c.exponent-exponent.result
     c.index.ensures taken c.remove.new.self.items c.in-Some.sum c.remove.ensures.items answer
-    (sym c.if-is_zero.ensures.value) (all_fit old c.requires.list)
+    (sym c.if-is_zero.ensures.value) (program_exponents_in_range old c.requires.list)
 
 pub returns-else-is_zero : goal.returns-else-is_zero
 returns-else-is_zero c =
@@ -104,4 +106,5 @@ returns-else-is_zero c =
     let put = ap (slice_set old c.in-At.index)
     (c.put_exponent.ensures ∙ ap (λ (p : Name × Fraction). (p.0, c.in-Some.sum)) same) in
     put_sum (exponent_in c.args.factor) power old c.in-At.index place c.index.result.now c.exponent-exponent.result
-    c.index.ensures taken _ c.in-Some.sum put answer (sym c.if-is_zero.ensures.value) (all_fit old c.requires.list)
+    c.index.ensures taken _ c.in-Some.sum put answer (sym c.if-is_zero.ensures.value)
+    (program_exponents_in_range old c.requires.list)

@@ -2,18 +2,19 @@ use Rattle.std.proofs.Common.{All, ap, arith, length, subst, sym, ◌∙◌}
 use Rattle.std.proofs.lemmas.Result.{err_from_is_err_and}
 use Rattle.std.specs.Vec.Iter.{into_iter_items}
 use Rattle.frac128.specs.Fraction.{Fraction}
-use Rattle.quantity.specs.Exponents.{IsPower}
-use Rattle.quantity.specs.Merges.{Powers, are_exponents, scaled_powers}
-use Rattle.quantity.proofs.Copies.{none_long}
-use Rattle.quantity.proofs.Ranges.{handed_on}
-use Rattle.quantity.proofs.ScaleSteps.{scaling_end, scaling_fault, scaling_more, scaling_start}
+use Rattle.quantity.specs.Exponents.{IsUnitPower}
+use Rattle.quantity.specs.Merges.{UnitPowers, are_exponents, scaled_powers}
+use Rattle.quantity.proofs.Copies.{no_powers_by_length}
+use Rattle.quantity.proofs.Ranges.{put_power_fault_passes_on}
+use Rattle.quantity.proofs.ScaleSteps.{scaling_powers_end, scaling_powers_fault, scaling_powers_more}
+use Rattle.quantity.proofs.ScaleSteps.{scaling_powers_start}
 use Rattle.quantity.proofs.power_scale.scale.Goals as goal
 
 pub loop-power-init : goal.loop-power-init
 loop-power-init c =
     let gives = c.into_iter-power-iterator.ensures.into_iter_gives in (
-      scaling_start c.args.degree.now _ _ c.in_ok-powers.ensures.items
-          (subst (All IsPower) (sym gives.0) c.requires),
+      scaling_powers_start c.args.degree.now _ _ c.in_ok-powers.ensures.items
+          (subst (All IsUnitPower) (sym gives.0) c.requires),
       gives.1 ∙ c.args.items.ok.0 ∙ sym (ap length gives.0),
     )
 
@@ -23,7 +24,8 @@ loop-power-preserved c =
     let was = c.loop-power.invariant.1 in
     let gone = steps.1 in
     let short = ap length steps.0 in (
-      scaling_more _ _ _ (into_iter_items c.loop-power.power-iterator) _ _ c.in-Some.power c.loop-power.invariant.0
+      scaling_powers_more _ _ _ (into_iter_items c.loop-power.power-iterator) _ _ c.in-Some.power
+          c.loop-power.invariant.0
           steps.0 c.in_ok-put_product.ensures,
       omega (arith, was, gone, short),
     )
@@ -35,14 +37,14 @@ returns-in_err-put_product c =
     let by : Fraction = c.args.degree.now in
     let all = c.into_iter-power-iterator.ensures.into_iter_gives.0 in
     rw (error.1, error.2)
-    (handed_on _ _ _ _ _ c.in_err-put_product.ensures (λ fails.
-    ap (λ (es : Powers). are_exponents (scaled_powers by es)) (sym all)
-    ∙ scaling_fault c.reduced_law.ensures by _ _ (into_iter_items c.loop-power.power-iterator) _ c.in-Some.power
+    (put_power_fault_passes_on _ _ _ _ _ c.in_err-put_product.ensures (λ fails.
+    ap (λ (es : UnitPowers). are_exponents (scaled_powers by es)) (sym all)
+    ∙ scaling_powers_fault c.reduced_law.ensures by _ _ (into_iter_items c.loop-power.power-iterator) _ c.in-Some.power
     c.denominator_facts.ensures c.loop-power.invariant.0 c.in-Some.ensures.steps.0 fails))
 
 pub returns : goal.returns
 returns c =
     let rest = into_iter_items c.loop-power.power-iterator in
-    let none = none_long rest (sym c.loop-power.invariant.1 ∙ c.in-None.ensures.steps.0) in
-    scaling_end c.args.degree.now _ _ rest _ c.loop-power.invariant.0 none
+    let none = no_powers_by_length rest (sym c.loop-power.invariant.1 ∙ c.in-None.ensures.steps.0) in
+    scaling_powers_end c.args.degree.now _ _ rest _ c.loop-power.invariant.0 none
     c.into_iter-power-iterator.ensures.into_iter_gives.0

@@ -1,10 +1,10 @@
 use Rattle.std.proofs.Common.{◌≡◌, ◌∙◌, pos, refl}
 use Rattle.frac128.specs.Divisors.{gcd, gcd_within}
-use Rattle.frac128.specs.Fraction.{whole}
+use Rattle.frac128.specs.Fraction.{whole_fraction}
 use Rattle.frac128.specs.Steps.{lowest_terms}
 use Rattle.quantity.proofs.quantity.one.Goals as goal
 
-one_is : lowest_terms (pos 1) 1 ≡ whole (pos 1)
+one_is : lowest_terms (pos 1) 1 ≡ whole_fraction (pos 1)
 unfolding lowest_terms gcd gcd_within
 one_is = refl
 

@@ -1,21 +1,22 @@
 use Rattle.std.proofs.Common.{Err, IfOk, ap, subst, ◌∙◌, ◌≡◌}
-use Rattle.deck.specs.Tables.{table}
+use Rattle.deck.specs.Tables.{table_of_deck}
 use Rattle.reply.specs.declared.failure.Failure.{Failure}
 use Rattle.reply.specs.declared.reply.Reply.{Reply}
-use Rattle.reply.specs.Calls.{IsInquired, itself}
+use Rattle.reply.specs.Calls.{IsInquiryAnswered, inquiry_identity}
 use Rattle.reply.specs.Inquiries.{text_worth}
-use Rattle.reply.specs.Faults.{is_reportable}
-use Rattle.reply.specs.Replies.{refusal}
+use Rattle.reply.specs.Faults.{is_reply_fault_reportable}
+use Rattle.reply.specs.Replies.{refusal_reply}
 use Rattle.reply.proofs.ReplyResults.{definition-granted, definition-refused, value-cut, value-fault-told, value-made}
 use Rattle.reply.proofs.reply.definition_reply.Goals as goal
 
 pub refusal-requires-clause-told : goal.refusal-requires-clause-told
 refusal-requires-clause-told g c =
-    ap is_reportable c.in-Err-Fault.fault-is
+    ap is_reply_fault_reportable c.in-Err-Fault.fault-is
     ∙ value-fault-told c.args.options.now c.args.from.now c.trim-from.result.now c.trim-from.ensures c.args.table.now
     c.evaluate_text.new.table
     c.args.steps.now c.evaluate_text.new.steps c.parse_memory_law.ensures c.in-Err-Fault.fault
-    (subst (λ (x : Failure). IsInquired itself (text_worth (table c.args.table.now.deck) c.trim-from.result.now) (Err x)
+    (subst (λ (x : Failure). IsInquiryAnswered inquiry_identity
+    (text_worth (table_of_deck c.args.table.now.deck) c.trim-from.result.now) (Err x)
     c.args.table.now c.evaluate_text.new.table c.args.steps.now c.evaluate_text.new.steps) c.in-Err-Fault.field-0-is
     c.in-Err-Fault.ensures.inquired)
 
@@ -39,11 +40,12 @@ returns-in-Ok-clause-queries g c =
 pub returns-in-Err-Fault-clause-reply : goal.returns-in-Err-Fault-clause-reply
 returns-in-Err-Fault-clause-reply g c =
     subst (λ (w : Reply). IfOk c.refusal.result (λ reply. reply ≡ w))
-    (ap (refusal c.of-form.result) c.in-Err-Fault.fault-is
+    (ap (refusal_reply c.of-form.result) c.in-Err-Fault.fault-is
     ∙ definition-refused c.args.options.now c.args.from.now c.trim-from.result.now c.trim-from.ensures c.args.table.now
     c.evaluate_text.new.table
     c.args.steps.now c.evaluate_text.new.steps c.of-form.result c.of-form.ensures.is c.in-Err-Fault.fault
-    (subst (λ (x : Failure). IsInquired itself (text_worth (table c.args.table.now.deck) c.trim-from.result.now) (Err x)
+    (subst (λ (x : Failure). IsInquiryAnswered inquiry_identity
+    (text_worth (table_of_deck c.args.table.now.deck) c.trim-from.result.now) (Err x)
     c.args.table.now c.evaluate_text.new.table c.args.steps.now c.evaluate_text.new.steps) c.in-Err-Fault.field-0-is
     c.in-Err-Fault.ensures.inquired))
     c.refusal.ensures
@@ -53,7 +55,8 @@ returns-in-Err-Fault-clause-queries g c =
     value-made c.args.options.now c.args.from.now c.trim-from.result.now c.trim-from.ensures c.args.table.now
     c.evaluate_text.new.table
     c.args.steps.now c.evaluate_text.new.steps c.refusal.result c.evaluate_text.ensures.deck
-    (subst (λ (x : Failure). IsInquired itself (text_worth (table c.args.table.now.deck) c.trim-from.result.now) (Err x)
+    (subst (λ (x : Failure). IsInquiryAnswered inquiry_identity
+    (text_worth (table_of_deck c.args.table.now.deck) c.trim-from.result.now) (Err x)
     c.args.table.now c.evaluate_text.new.table c.args.steps.now c.evaluate_text.new.steps) c.in-Err-Fault.field-0-is
     c.in-Err-Fault.ensures.inquired).1
 
@@ -62,7 +65,8 @@ returns-in-Err-OutOfMemory-clause-queries g c =
     value-cut c.args.options.now c.args.from.now c.trim-from.result.now c.trim-from.ensures c.args.table.now
     c.evaluate_text.new.table
     c.args.steps.now c.evaluate_text.new.steps
-    (subst (λ (x : Failure). IsInquired itself (text_worth (table c.args.table.now.deck) c.trim-from.result.now) (Err x)
+    (subst (λ (x : Failure). IsInquiryAnswered inquiry_identity
+    (text_worth (table_of_deck c.args.table.now.deck) c.trim-from.result.now) (Err x)
     c.args.table.now c.evaluate_text.new.table c.args.steps.now c.evaluate_text.new.steps)
     c.in-Err-OutOfMemory.field-0-is
     c.in-Err-OutOfMemory.ensures.inquired)

@@ -1,23 +1,24 @@
 use Rattle.std.proofs.Common.{Err, IfOk, Ok, ap, subst, ◌∙◌, ◌≡◌}
-use Rattle.deck.specs.Tables.{table}
+use Rattle.deck.specs.Tables.{table_of_deck}
 use Rattle.reply.specs.declared.failure.Failure.{Failure}
 use Rattle.reply.specs.declared.fault.ReplyFault.{ReplyFault}
 use Rattle.reply.specs.declared.reply.FromValue.{FromValue}
 use Rattle.reply.specs.declared.reply.FromValue.TheVariants.{Bad, Good}
-use Rattle.reply.specs.Calls.{IsInquired, itself}
-use Rattle.reply.specs.Faults.{fault_text, is_reportable}
+use Rattle.reply.specs.Calls.{IsInquiryAnswered, inquiry_identity}
+use Rattle.reply.specs.Faults.{fault_text, is_reply_fault_reportable}
 use Rattle.reply.specs.Inquiries.{text_worth}
-use Rattle.reply.specs.Options.{style_of}
+use Rattle.reply.specs.Options.{reply_style}
 use Rattle.reply.proofs.ReplyResults.{value-bad, value-cut, value-fault-told, value-good, value-made}
 use Rattle.reply.proofs.reply.from_value.Goals as goal
 
 pub bad-requires-clause-told : goal.bad-requires-clause-told
 bad-requires-clause-told g c =
-    ap is_reportable c.in-Err-Fault.fault-is
+    ap is_reply_fault_reportable c.in-Err-Fault.fault-is
     ∙ value-fault-told c.args.options.now c.args.from.now c.trim-from.result.now c.trim-from.ensures c.args.table.now
     c.evaluate_text.new.table
     c.args.steps.now c.evaluate_text.new.steps c.parse_memory_law.ensures c.in-Err-Fault.fault
-    (subst (λ (x : Failure). IsInquired itself (text_worth (table c.args.table.now.deck) c.trim-from.result.now) (Err x)
+    (subst (λ (x : Failure). IsInquiryAnswered inquiry_identity
+    (text_worth (table_of_deck c.args.table.now.deck) c.trim-from.result.now) (Err x)
     c.args.table.now c.evaluate_text.new.table c.args.steps.now c.evaluate_text.new.steps) c.in-Err-Fault.field-0-is
     c.in-Err-Fault.ensures.inquired)
 
@@ -36,11 +37,12 @@ returns-in-Ok-clause-queries g c =
 pub returns-in-Err-Fault-clause-value : goal.returns-in-Err-Fault-clause-value
 returns-in-Err-Fault-clause-value g c =
     subst (λ (w : FromValue). IfOk c.bad.result (λ value. value ≡ w))
-    (ap (λ (f : ReplyFault). Bad (fault_text (style_of c.args.options.now) f)) c.in-Err-Fault.fault-is
+    (ap (λ (f : ReplyFault). Bad (fault_text (reply_style c.args.options.now) f)) c.in-Err-Fault.fault-is
     ∙ value-bad c.args.options.now c.args.from.now c.trim-from.result.now c.trim-from.ensures c.args.table.now
     c.evaluate_text.new.table
     c.args.steps.now c.evaluate_text.new.steps c.in-Err-Fault.fault
-    (subst (λ (x : Failure). IsInquired itself (text_worth (table c.args.table.now.deck) c.trim-from.result.now) (Err x)
+    (subst (λ (x : Failure). IsInquiryAnswered inquiry_identity
+    (text_worth (table_of_deck c.args.table.now.deck) c.trim-from.result.now) (Err x)
     c.args.table.now c.evaluate_text.new.table c.args.steps.now c.evaluate_text.new.steps) c.in-Err-Fault.field-0-is
     c.in-Err-Fault.ensures.inquired))
     c.bad.ensures
@@ -50,7 +52,8 @@ returns-in-Err-Fault-clause-queries g c =
     value-made c.args.options.now c.args.from.now c.trim-from.result.now c.trim-from.ensures c.args.table.now
     c.evaluate_text.new.table
     c.args.steps.now c.evaluate_text.new.steps c.bad.result c.evaluate_text.ensures.deck
-    (subst (λ (x : Failure). IsInquired itself (text_worth (table c.args.table.now.deck) c.trim-from.result.now) (Err x)
+    (subst (λ (x : Failure). IsInquiryAnswered inquiry_identity
+    (text_worth (table_of_deck c.args.table.now.deck) c.trim-from.result.now) (Err x)
     c.args.table.now c.evaluate_text.new.table c.args.steps.now c.evaluate_text.new.steps) c.in-Err-Fault.field-0-is
     c.in-Err-Fault.ensures.inquired).1
 
@@ -59,7 +62,8 @@ returns-in-Err-OutOfMemory-clause-queries g c =
     value-cut c.args.options.now c.args.from.now c.trim-from.result.now c.trim-from.ensures c.args.table.now
     c.evaluate_text.new.table
     c.args.steps.now c.evaluate_text.new.steps
-    (subst (λ (x : Failure). IsInquired itself (text_worth (table c.args.table.now.deck) c.trim-from.result.now) (Err x)
+    (subst (λ (x : Failure). IsInquiryAnswered inquiry_identity
+    (text_worth (table_of_deck c.args.table.now.deck) c.trim-from.result.now) (Err x)
     c.args.table.now c.evaluate_text.new.table c.args.steps.now c.evaluate_text.new.steps)
     c.in-Err-OutOfMemory.field-0-is
     c.in-Err-OutOfMemory.ensures.inquired)

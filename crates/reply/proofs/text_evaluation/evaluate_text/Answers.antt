@@ -1,41 +1,44 @@
 use Rattle.std.proofs.Common.{Err, Ok, sym, subst, refl, ap, ◌∙◌}
 use Rattle.std.proofs.lemmas.Result.{err_from_is_err_and}
-use Rattle.deck.specs.Tables.{table}
+use Rattle.deck.specs.Tables.{table_of_deck}
 use Rattle.expr_tree.specs.Trees.{syntax}
-use Rattle.live_table.proofs.QuerySequence.{follows_none}
-use Rattle.reply.specs.Calls.{IsInquired, failure_of, itself}
-use Rattle.reply.specs.Inquiries.{text_worth, tree_value, without_queries}
-use Rattle.reply.specs.Trees.{tree_in}
+use Rattle.live_table.proofs.QuerySequence.{no_live_events_keep_view}
+use Rattle.reply.specs.Calls.{IsInquiryAnswered, inquiry_failure, inquiry_identity}
+use Rattle.reply.specs.Inquiries.{inquiry_without_queries, text_worth, tree_value}
+use Rattle.reply.specs.Trees.{inquiry_tree}
 use Rattle.reply.proofs.InquirySequence.{read-given, then-answered, then-failed}
 use Rattle.reply.proofs.text_evaluation.evaluate_text.Goals as goal
 
 pub returns-in_err-tree-clause-inquired : goal.returns-in_err-tree-clause-inquired
 returns-in_err-tree-clause-inquired g c =
     let p = err_from_is_err_and c.from_residual.result c.from_residual.ensures.1 in
-    subst (λ r. IsInquired itself (text_worth (table c.args.table.now.deck) c.args.text.now) r
+    subst (λ r. IsInquiryAnswered inquiry_identity (text_worth (table_of_deck c.args.table.now.deck) c.args.text.now) r
     c.args.table.now c.args.table.now c.args.steps.now c.args.steps.now) (sym (p.1 ∙ ap Err p.2))
-    (then-failed itself (without_queries (tree_in c.args.text.now)) (tree_value (table c.args.table.now.deck)) syntax
+    (then-failed inquiry_identity (inquiry_without_queries (inquiry_tree c.args.text.now))
+    (tree_value (table_of_deck c.args.table.now.deck)) syntax
     c.in_err-tree.field-0.0 c.args.table.now c.args.table.now c.args.steps.now c.args.steps.now
-    (read-given syntax (tree_in c.args.text.now) c.args.table.now c.args.steps.now (Err c.in_err-tree.field-0.0)
+    (read-given syntax (inquiry_tree c.args.text.now) c.args.table.now c.args.steps.now (Err c.in_err-tree.field-0.0)
     c.outcomes_are_right.ensures c.in_err-tree.ensures))
 
 pub returns-in_err-value-clause-inquired : goal.returns-in_err-value-clause-inquired
 returns-in_err-value-clause-inquired g c =
     let p = err_from_is_err_and c.from_residual-in_err-value.result c.from_residual-in_err-value.ensures.1 in
-    subst (λ r. IsInquired itself (text_worth (table c.args.table.now.deck) c.args.text.now) r
+    subst (λ r. IsInquiryAnswered inquiry_identity (text_worth (table_of_deck c.args.table.now.deck) c.args.text.now) r
     c.args.table.now c.evaluate_tree.new.table c.args.steps.now c.evaluate_tree.new.steps) (sym (p.1 ∙ ap Err p.2))
-    (then-answered itself (without_queries (tree_in c.args.text.now)) (tree_value (table c.args.table.now.deck))
-    (syntax c.in_ok-tree.tree) (Err (failure_of c.in_err-value.field-0.0))
+    (then-answered inquiry_identity (inquiry_without_queries (inquiry_tree c.args.text.now))
+    (tree_value (table_of_deck c.args.table.now.deck))
+    (syntax c.in_ok-tree.tree) (Err (inquiry_failure c.in_err-value.field-0.0))
     c.args.table.now c.args.table.now c.evaluate_tree.new.table c.args.steps.now c.args.steps.now
     c.evaluate_tree.new.steps
-    refl c.in_ok-tree.ensures (follows_none c.args.table.now c.args.steps.now c.outcomes_are_right.ensures)
+    refl c.in_ok-tree.ensures (no_live_events_keep_view c.args.table.now c.args.steps.now c.outcomes_are_right.ensures)
     c.in_err-value.ensures.inquired)
 
 pub returns-clause-inquired : goal.returns-clause-inquired
 returns-clause-inquired g c =
-    then-answered itself (without_queries (tree_in c.args.text.now)) (tree_value (table c.args.table.now.deck))
+    then-answered inquiry_identity (inquiry_without_queries (inquiry_tree c.args.text.now))
+    (tree_value (table_of_deck c.args.table.now.deck))
     (syntax c.in_ok-tree.tree) (Ok c.in_ok-value.value)
     c.args.table.now c.args.table.now c.evaluate_tree.new.table c.args.steps.now c.args.steps.now
     c.evaluate_tree.new.steps
-    refl c.in_ok-tree.ensures (follows_none c.args.table.now c.args.steps.now c.outcomes_are_right.ensures)
+    refl c.in_ok-tree.ensures (no_live_events_keep_view c.args.table.now c.args.steps.now c.outcomes_are_right.ensures)
     c.in_ok-value.ensures.inquired

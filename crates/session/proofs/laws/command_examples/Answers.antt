@@ -1,10 +1,10 @@
 use Rattle.std.proofs.Common.{refl}
 use Rattle.def_lines.specs.Lines.{line_content}
-use Rattle.session.specs.Commands.{colon_command, command_in}
+use Rattle.session.specs.Commands.{colon_command, session_command_in_text}
 use Rattle.session.proofs.laws.command_examples.Goals as goal
 
 pub returns : goal.returns
-unfolding line_content command_in colon_command
+unfolding line_content session_command_in_text colon_command
 returns c = record {
   blank_line = refl;
   quit = refl;

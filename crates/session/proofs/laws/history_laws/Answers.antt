@@ -1,5 +1,5 @@
-use Rattle.session.proofs.UndoLaws.{history-laws}
+use Rattle.session.proofs.UndoLaws.{session-history-laws}
 use Rattle.session.proofs.laws.history_laws.Goals as goal
 
 pub returns : goal.returns
-returns c = history-laws
+returns c = session-history-laws

@@ -6,7 +6,7 @@ abbrev pub invariant-loop-k : goal.invariant-loop-k
 invariant-loop-k l = record {
   some : 1 ≤ l.rounds;
   within : l.k ≤ l.rounds;
-  text : l.text.items ≡ spec.rounds l.rounds l.k;
+  text : l.text.items ≡ spec.trial_rounds_text l.rounds l.k;
 }
 
 abbrev pub decreases-loop-k : goal.decreases-loop-k

@@ -1,5 +1,6 @@
 use Rattle.std.proofs.Common.{◌+◌, ◌*◌}
-use Rattle.expr_tree.specs.Trees.{factors_of, factors_syntax, members, syntax, terms, terms_of, trees_of}
+use Rattle.expr_tree.specs.Trees.{factors_syntax, members_syntax, syntax, syntax_of_factors, syntax_of_terms}
+use Rattle.expr_tree.specs.Trees.{syntax_of_trees, terms_syntax}
 use Rattle.test_values.proofs.Sizes.{factors_size, members_size, size, terms_size}
 use Rattle.test_values.proofs.notation.+put.Given as goal
 
@@ -10,10 +11,10 @@ abbrev pub decreases-put_last : goal.decreases-put_last
 decreases-put_last l = 2 * size (syntax l.tree.now) + 1
 
 abbrev pub decreases-put_members : goal.decreases-put_members
-decreases-put_members l = 2 * members_size (members (trees_of l.members.now)) + 1
+decreases-put_members l = 2 * members_size (members_syntax (syntax_of_trees l.members.now)) + 1
 
 abbrev pub decreases-put_factors : goal.decreases-put_factors
-decreases-put_factors l = 2 * factors_size (factors_syntax (factors_of l.members.now)) + 1
+decreases-put_factors l = 2 * factors_size (factors_syntax (syntax_of_factors l.members.now)) + 1
 
 abbrev pub decreases-put_terms : goal.decreases-put_terms
-decreases-put_terms l = 2 * terms_size (terms (terms_of l.members.now)) + 1
+decreases-put_terms l = 2 * terms_size (terms_syntax (syntax_of_terms l.members.now)) + 1

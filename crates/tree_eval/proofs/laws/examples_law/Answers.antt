@@ -1,10 +1,10 @@
 use Rattle.std.proofs.Common.{refl}
 use Rattle.frac128.specs.Divisors.{gcd, gcd_within}
 use Rattle.frac128.specs.Steps.{lowest_terms}
-use Rattle.tree_eval.specs.Examples.{TestsLaw, ValuesLaw}
+use Rattle.tree_eval.specs.Examples.{ArgumentTestsLaw, ExpressionValuesLaw}
 use Rattle.tree_eval.proofs.laws.examples_law.Goals as goal
 
-values : ValuesLaw
+values : ExpressionValuesLaw
 unfolding gcd gcd_within lowest_terms
 values = record {
   decimals = refl;
@@ -20,7 +20,7 @@ values = record {
   no_inverse = refl;
 }
 
-tests : TestsLaw
+tests : ArgumentTestsLaw
 tests = record {
   closed_end = refl;
   open_end = refl;

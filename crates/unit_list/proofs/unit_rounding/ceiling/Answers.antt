@@ -2,8 +2,8 @@ use Rattle.std.proofs.Common.{◌≡◌, ◌<◌, ◌≤◌, ◌+◌, ◌*◌, �
 use Rattle.std.proofs.Common.{arith, refl, ap, ◌∙◌}
 use Rattle.std.proofs.lemmas.Int.{ints}
 use Rattle.std.proofs.Math.Nat.{div-add-mod, div-eq_of_lt-le, div-zero, mod-lt, zero-mod}
-use Rattle.frac128.specs.Floor.{floor_of}
-use Rattle.frac128.specs.Fraction.{negative_of, whole}
+use Rattle.frac128.specs.Floor.{fraction_floor}
+use Rattle.frac128.specs.Fraction.{opposite_fraction, whole_fraction}
 use Rattle.unit_list.proofs.unit_rounding.ceiling.Goals as goal
 
 -- the quotient of a number that is not a multiple equals that of the number before it
@@ -25,12 +25,14 @@ next_whole a (suc d) some =
 
 -- the floor of the negated number, negated
 ceiling_is : (z : ℤ) (d : ℕ) → pos 0 ≤ℤ z → 0 < unsigned_abs z % d
-    → negative_of (floor_of (negative_of (record { num = z; den = d }))) ≡ whole (pos (unsigned_abs z / d + 1))
+    → opposite_fraction (fraction_floor (opposite_fraction (record { num = z; den = d }))) ≡ whole_fraction
+    (pos (unsigned_abs z / d + 1))
 ceiling_is (pos zero) d natural some = absurd (omega (arith, zero-mod d))
-ceiling_is (pos (suc a)) d natural some = ap (λ n. whole (pos n)) (next_whole a d some)
+ceiling_is (pos (suc a)) d natural some = ap (λ n. whole_fraction (pos n)) (next_whole a d some)
 ceiling_is (negsuc a) d natural some = absurd (omega (arith, ints))
 
 pub returns : goal.returns
 returns c =
-    c.negate-2.ensures ∙ ap negative_of c.floor.ensures.computed ∙ ap (λ x. negative_of (floor_of x)) c.negate.ensures
+    c.negate-2.ensures ∙ ap opposite_fraction c.floor.ensures.computed
+    ∙ ap (λ x. opposite_fraction (fraction_floor x)) c.negate.ensures
     ∙ ceiling_is c.args.x.now.num c.args.x.now.den c.requires.plain c.requires.part

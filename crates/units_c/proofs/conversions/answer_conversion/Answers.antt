@@ -1,10 +1,11 @@
 use Rattle.std.proofs.Common.{◌∙◌, ap}
-use Rattle.units_c.specs.Answers.{reply_answer}
-use Rattle.units_c.specs.Tables.{query_table}
-use Rattle.units_c.proofs.Replied.{reply_is}
+use Rattle.units_c.specs.Answers.{c_reply_answer}
+use Rattle.units_c.specs.Tables.{c_query_table}
+use Rattle.units_c.proofs.Replied.{c_reply_answers_conversion}
 use Rattle.units_c.proofs.conversions.answer_conversion.Goals as goal
 
 pub returns-clause-answer : goal.returns-clause-answer
 returns-clause-answer c =
-    c.reply_answer.ensures ∙ ap reply_answer c.in_ok-reply.ensures.reply
-    ∙ reply_is c.statuses_law.ensures (query_table c.args.content.now) c.args.options.now c.args.from.now c.args.to.now
+    c.reply_answer.ensures ∙ ap c_reply_answer c.in_ok-reply.ensures.reply
+    ∙ c_reply_answers_conversion c.statuses_law.ensures (c_query_table c.args.content.now) c.args.options.now
+    c.args.from.now c.args.to.now

@@ -1,6 +1,6 @@
 use Rattle.std.proofs.Common.{length, subst}
-use Rattle.edited_table.specs.TableValue.{Edited}
-use Rattle.units_c.specs.Turns.{IsAnsweredTurn, IsBack}
+use Rattle.edited_table.specs.TableValue.{EditedTableView}
+use Rattle.units_c.specs.Turns.{IsAnsweredCTurn, IsCEditUndone}
 use Rattle.units_c.proofs.Exported.{open_turn}
 use Rattle.units_c.proofs.table_edits.units_undo.Goals as goal
 
@@ -8,6 +8,6 @@ pub returns-clause-undone : goal.returns-clause-undone
 returns-clause-undone c =
     open_turn c.args.table.now.handle.held c.put.new.self.handle.held c.in-Some.content.value _
     c.in-Some.ensures.taken c.put.ensures c.answer_undo-answered.result (length c.args.out.now) c.deliver.result
-    c.deliver.new.written c.deliver.new.out c.deliver.ensures.memory c.deliver.ensures.handed IsBack
-    (subst (λ (e : Edited). IsAnsweredTurn IsBack c.answer_undo-answered.result e
+    c.deliver.new.written c.deliver.new.out c.deliver.ensures.memory c.deliver.ensures.handed IsCEditUndone
+    (subst (λ (e : EditedTableView). IsAnsweredCTurn IsCEditUndone c.answer_undo-answered.result e
     c.answer_undo-answered.new.content) c.deref_mut.ensures.value c.answer_undo-answered.ensures.undone)

@@ -1,12 +1,12 @@
 use Rattle.std.proofs.Common.{◌&&◌, ◌||◌, Bool, Err, List, Option, ap, is_some, not, subst, sym, true, ℕ}
 use Rattle.std.specs.Prelude.{IfOk}
-use Rattle.deck.specs.FileLoads.{IsLoaded, after_load}
-use Rattle.units_run.specs.Definitions.{no_deck_line}
-use Rattle.units_run.specs.Plans.{complaint}
-use Rattle.units_run.specs.ProgramPlans.{IsFor, IsPlanned}
+use Rattle.deck.specs.FileLoads.{IsDeckLoaded, deck_after_loading}
+use Rattle.units_run.specs.Definitions.{no_deck_run_line}
+use Rattle.units_run.specs.Plans.{complaint_plan}
+use Rattle.units_run.specs.ProgramPlans.{IsPlanned, IsPossiblePlan}
 use Rattle.units_run.specs.Work.{deck_plan}
 use Rattle.units_run.specs.declared.status.Status.TheVariants.{NoFile}
-use Rattle.units_run.proofs.WordPlans.{deck_missing, tells_needed}
+use Rattle.units_run.proofs.WordPlans.{needed_run_value_is_known, plan_without_deck}
 use Rattle.units_run.proofs.words_plan.deck_plan.Goals as goal
 
 pub returns-in-Err-clause-told : goal.returns-in-Err-clause-told
@@ -16,12 +16,15 @@ returns-in-Err-clause-told g c = λ m s.
     let missing = c.no_deck_plan in
     subst (λ (f : Option (List ℕ)). IsPlanned (deck_plan f line c.args.settings m) m missing.result n n)
     (sym c.in-Some.is)
-    (deck_missing (after_load m c.in-Some.name c.args.settings) c.in-Err.fault line c.in-Some.name m missing.result n
+    (plan_without_deck (deck_after_loading m c.in-Some.name c.args.settings) c.in-Err.fault line c.in-Some.name m
+    missing.result n
     missing.ensures.fault
-    (subst (λ (name : List ℕ). IsLoaded (after_load m name c.args.settings) (Err c.in-Err.fault)) c.as_bytes.ensures
+    (subst (λ (name : List ℕ). IsDeckLoaded (deck_after_loading m name c.args.settings) (Err c.in-Err.fault))
+    c.as_bytes.ensures
     (c.in-Err.ensures.told m
-    (tells_needed (is_some line.file) (g.F.Files.files c.args.files.now) m (ap is_some c.in-Some.is) s)))
-    (subst (λ (name : List ℕ). IsPlanned (complaint (no_deck_line c.in-Err.fault name) NoFile) m missing.result n n)
+    (needed_run_value_is_known (is_some line.file) (g.F.Files.files c.args.files.now) m (ap is_some c.in-Some.is) s)))
+    (subst (λ (name : List ℕ). IsPlanned (complaint_plan (no_deck_run_line c.in-Err.fault name) NoFile) m missing.result
+    n n)
     c.as_bytes-in-Err.ensures (missing.ensures.told m n)))
 
 pub returns-in-Err-clause-kind : goal.returns-in-Err-clause-kind
@@ -29,5 +32,6 @@ returns-in-Err-clause-kind g c =
     let line = c.args.line.now in
     let session = not (is_some line.from || line.check) in
     let column = is_some line.from && is_some line.column in
-    subst (λ (file : Bool). IfOk c.no_deck_plan.result (IsFor true file session column)) (sym (ap is_some c.in-Some.is))
+    subst (λ (file : Bool). IfOk c.no_deck_plan.result (IsPossiblePlan true file session column))
+    (sym (ap is_some c.in-Some.is))
     (c.no_deck_plan.ensures.kind session column)

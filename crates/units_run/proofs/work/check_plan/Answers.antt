@@ -1,12 +1,13 @@
 use Rattle.std.proofs.Common.{◌∙◌, ap}
-use Rattle.deck.specs.Decks.{Contents}
-use Rattle.session.specs.Lines.{lines_of_texts}
-use Rattle.units_run.proofs.DeckPlans.{check_planned}
+use Rattle.deck.specs.Decks.{DeckContents}
+use Rattle.session.specs.Lines.{session_lines_of_texts}
+use Rattle.units_run.proofs.DeckPlans.{check_is_planned}
 use Rattle.units_run.proofs.work.check_plan.Goals as goal
 
 pub returns-clause-told : goal.returns-clause-told
 returns-clause-told c = λ m n.
-    check_planned c.args.line.now
+    check_is_planned c.args.line.now
     (record { notices = c.in_ok-notices.notices; table = c.args.table; options = c.options_of.result }) m n
-    c.requires.fresh (c.in_ok-notices.ensures ∙ ap (λ (d : Contents). lines_of_texts d.notices) c.deck.ensures.deck)
+    c.requires.fresh (c.in_ok-notices.ensures ∙ ap (λ (d : DeckContents). session_lines_of_texts d.notices)
+    c.deck.ensures.deck)
     c.options_of.ensures.is

@@ -1,5 +1,5 @@
-use Rattle.value_sources.proofs.Words.{key_words_are}
+use Rattle.value_sources.proofs.Words.{source_uses_law}
 use Rattle.value_sources.proofs.laws.uses_law.Goals as goal
 
 pub returns : goal.returns
-returns c = λ table n. key_words_are table n
+returns c = λ table n. source_uses_law table n

@@ -2,11 +2,11 @@ use Rattle.std.proofs.Common.{◌∙◌, ◌∷◌, []}
 use Rattle.def_entry.specs.Keys.{key}
 use Rattle.def_entry.specs.declared.key.Kind.TheVariants as kind
 use Rattle.name_lookup.specs.Candidates.{part_candidates}
-use Rattle.word_readings.proofs.First.{first_of_present, passed}
+use Rattle.word_readings.proofs.First.{absent_reading_is_passed, first_reading_of_present}
 use Rattle.word_readings.proofs.laws.first_reading_law.Goals as goal
 
 pub returns : goal.returns
 returns c table word no_unit no_function =
-    passed table (key kind.Unit word) ((key kind.Func word ∷ []) ∷ part_candidates word) no_unit
-    ∙ (passed table (key kind.Func word) (part_candidates word) no_function
-    ∙ first_of_present table (part_candidates word))
+    absent_reading_is_passed table (key kind.Unit word) ((key kind.Func word ∷ []) ∷ part_candidates word) no_unit
+    ∙ (absent_reading_is_passed table (key kind.Func word) (part_candidates word) no_function
+    ∙ first_reading_of_present table (part_candidates word))

@@ -1,5 +1,5 @@
 use Rattle.std.proofs.Common.{◌≡◌, ◌++◌, ◌≤◌, length}
-use Rattle.deck.specs.Tables.{table}
+use Rattle.deck.specs.Tables.{table_of_deck}
 use Rattle.name_lookup.specs.Candidates.{prefix_candidates, prefix_candidates_within}
 use Rattle.word_readings.specs.Readings.{readings_keys, readings_present}
 use Rattle.word_readings.proofs.readings.put_with_prefixes.Given as goal
@@ -9,8 +9,8 @@ abbrev pub invariant-loop-len : goal.invariant-loop-len
 invariant-loop-len l = record {
   within : l.len ≤ length l.word;
   readings : readings_keys l.readings.items
-      ++ readings_present (table l.deck) (prefix_candidates_within l.len l.word)
-      ≡ readings_keys l.initial.readings.items ++ readings_present (table l.deck) (prefix_candidates l.word);
+      ++ readings_present (table_of_deck l.deck) (prefix_candidates_within l.len l.word)
+      ≡ readings_keys l.initial.readings.items ++ readings_present (table_of_deck l.deck) (prefix_candidates l.word);
 }
 
 abbrev pub decreases-loop-len : goal.decreases-loop-len

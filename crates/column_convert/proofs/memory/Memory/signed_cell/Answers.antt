@@ -1,5 +1,5 @@
-use Rattle.column_convert.proofs.RecallQueries.{at_some, cell_cut, cell_made, cell_stopped, queries_known}
-use Rattle.column_convert.proofs.RecallQueries.{queries_made}
+use Rattle.column_convert.proofs.RecallQueries.{cell_cut, cell_made, cell_stopped, queries_known}
+use Rattle.column_convert.proofs.RecallQueries.{some_recalled_cell_value_holds, queries_made}
 use Rattle.column_convert.proofs.memory.Memory.signed_cell.Goals as goal
 
 pub returns-in_err-recall-clause-queries : goal.returns-in_err-recall-clause-queries
@@ -24,7 +24,8 @@ returns-in-Some-clause-queries g c =
     c.args.number.now.text.now c.args.number.now.signed c.requires.signed
     c.args.table.now c.recall.new.table c.args.steps.now c.recall.new.steps c.recall.ensures.deck
     c.in_ok-recall.ensures.asked
-    c.recall.new.self c.in-Some.cell (at_some _ _ c.in-Some.cell c.in-Some.is c.in_ok-cell.ensures)
+    c.recall.new.self c.in-Some.cell
+    (some_recalled_cell_value_holds _ _ c.in-Some.cell c.in-Some.is c.in_ok-cell.ensures)
     c.in_ok-recall.ensures.known
 
 pub returns-clause-cell : goal.returns-clause-cell

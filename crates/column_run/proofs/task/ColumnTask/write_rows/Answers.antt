@@ -1,14 +1,14 @@
 use Rattle.std.proofs.Common.{◌≡◌, ◌∙◌, ◌<◌, length, sym, ap, subst, arith}
-use Rattle.deck.specs.Tables.{table}
-use Rattle.units_io.specs.Bytes.{known_append, GrowsByFront}
-use Rattle.live_table.specs.TableView.{IsAfterEvents}
-use Rattle.column_convert.specs.Blocks.{is_error_row, text_of}
-use Rattle.column_convert.specs.Inputs.{Input}
+use Rattle.deck.specs.Tables.{table_of_deck}
+use Rattle.units_io.specs.Bytes.{sink_bytes_append, SinkGrowsByPrefix}
+use Rattle.live_table.specs.TableView.{IsAfterLiveEvents}
+use Rattle.column_convert.specs.Blocks.{is_error_row, text_of_rows}
+use Rattle.column_convert.specs.Inputs.{ColumnInput}
 use Rattle.column_convert.specs.Rows.{queries, rows}
 use Rattle.column_convert.specs.declared.block.Block.{Block}
-use Rattle.column_run.proofs.Rowing.{IsUnderway, fewer, follows_over, front_next, front_now, of_texts, refused_over}
-use Rattle.column_run.proofs.Rowing.{underway_next, underway_start, whole_over}
-use Rattle.column_run.proofs.Writing.{front_all}
+use Rattle.column_run.proofs.Rowing.{IsUnderway, column_run_of_equal_texts, column_run_records_get_fewer, follows_over}
+use Rattle.column_run.proofs.Rowing.{front_next, front_now, refused_over, underway_next, underway_start, whole_over}
+use Rattle.column_run.proofs.Writing.{column_run_front_of_all}
 use Rattle.column_run.proofs.task.ColumnTask.write_rows.Goals as goal
 
 pub loop-block-init : goal.loop-block-init
@@ -21,9 +21,9 @@ loop-block-init g c = record {
 pub returns-in_err-block-clause-front : goal.returns-in_err-block-clause-front
 returns-in_err-block-clause-front g c =
     let task = c.args.self.now in
-    of_texts
-    (λ from to. GrowsByFront (g.O.Sink.written c.args.out.now) (g.O.Sink.written c.loop-block.out)
-    (text_of (rows (table task.table.deck) task.options from to c.args.columns.now)))
+    column_run_of_equal_texts
+    (λ from to. SinkGrowsByPrefix (g.O.Sink.written c.args.out.now) (g.O.Sink.written c.loop-block.out)
+    (text_of_rows (rows (table_of_deck task.table.deck) task.options from to c.args.columns.now)))
     c.as_bytes-from.ensures c.as_bytes-to.ensures
     (front_now c.args.self.now.options c.as_bytes-from.result.now c.as_bytes-to.result.now c.args.columns.now
     (g.O.Sink.written c.args.out.now)
@@ -33,9 +33,9 @@ returns-in_err-block-clause-front g c =
 pub returns-then-block-eq0-clause-whole : goal.returns-then-block-eq0-clause-whole
 returns-then-block-eq0-clause-whole g c =
     let task = c.args.self.now in
-    of_texts
-    (λ from to. g.O.Sink.written c.loop-block.out ≡ known_append (g.O.Sink.written c.args.out.now)
-    (text_of (rows (table task.table.deck) task.options from to c.args.columns.now)))
+    column_run_of_equal_texts
+    (λ from to. g.O.Sink.written c.loop-block.out ≡ sink_bytes_append (g.O.Sink.written c.args.out.now)
+    (text_of_rows (rows (table_of_deck task.table.deck) task.options from to c.args.columns.now)))
     c.as_bytes-from.ensures c.as_bytes-to.ensures
     (whole_over c.args.self.now.options c.as_bytes-from.result.now c.as_bytes-to.result.now c.args.columns.now
     (g.O.Sink.written c.args.out.now)
@@ -44,14 +44,14 @@ returns-then-block-eq0-clause-whole g c =
     c.in_ok-block.ensures.queries c.in_ok-block.block c.in_ok-block.ensures.block c.if-block-eq0.true)
 
 pub returns-then-block-eq0-clause-front : goal.returns-then-block-eq0-clause-front
-returns-then-block-eq0-clause-front g c = front_all _ _ _ (returns-then-block-eq0-clause-whole g c)
+returns-then-block-eq0-clause-front g c = column_run_front_of_all _ _ _ (returns-then-block-eq0-clause-whole g c)
 
 pub returns-then-block-eq0-clause-refused : goal.returns-then-block-eq0-clause-refused
 returns-then-block-eq0-clause-refused g c =
     let task = c.args.self.now in
-    of_texts
+    column_run_of_equal_texts
     (λ from to. c.loop-block.refused ≡ is_error_row
-    (rows (table task.table.deck) task.options from to c.args.columns.now))
+    (rows (table_of_deck task.table.deck) task.options from to c.args.columns.now))
     c.as_bytes-from.ensures c.as_bytes-to.ensures
     (refused_over c.args.self.now.options c.as_bytes-from.result.now c.as_bytes-to.result.now c.args.columns.now
     (g.O.Sink.written c.args.out.now)
@@ -62,8 +62,8 @@ returns-then-block-eq0-clause-refused g c =
 pub returns-then-block-eq0-clause-queries : goal.returns-then-block-eq0-clause-queries
 returns-then-block-eq0-clause-queries g c =
     let task = c.args.self.now in
-    of_texts
-    (λ from to. IsAfterEvents (queries (table task.table.deck) task.options from to c.args.columns.now)
+    column_run_of_equal_texts
+    (λ from to. IsAfterLiveEvents (queries (table_of_deck task.table.deck) task.options from to c.args.columns.now)
     task.table c.next_rows.new.table c.args.steps.now c.next_rows.new.steps)
     c.as_bytes-from.ensures c.as_bytes-to.ensures
     (follows_over c.args.self.now.options c.as_bytes-from.result.now c.as_bytes-to.result.now c.args.columns.now
@@ -75,9 +75,9 @@ returns-then-block-eq0-clause-queries g c =
 pub returns-in-Err-clause-front : goal.returns-in-Err-clause-front
 returns-in-Err-clause-front g c =
     let task = c.args.self.now in
-    of_texts
-    (λ from to. GrowsByFront (g.O.Sink.written c.args.out.now) (g.O.Sink.written c.put_all.new.sink)
-    (text_of (rows (table task.table.deck) task.options from to c.args.columns.now)))
+    column_run_of_equal_texts
+    (λ from to. SinkGrowsByPrefix (g.O.Sink.written c.args.out.now) (g.O.Sink.written c.put_all.new.sink)
+    (text_of_rows (rows (table_of_deck task.table.deck) task.options from to c.args.columns.now)))
     c.as_bytes-from.ensures c.as_bytes-to.ensures
     (front_next c.args.self.now.options c.as_bytes-from.result.now c.as_bytes-to.result.now c.args.columns.now
     (g.O.Sink.written c.args.out.now)
@@ -85,13 +85,14 @@ returns-in-Err-clause-front g c =
     c.loop-block.table c.loop-block.steps c.loop-block.invariant.at c.blocks_law.ensures 1024 c.next_rows.new.table
     c.next_rows.new.steps c.next_rows.ensures.deck c.in_ok-block.ensures.queries c.in_ok-block.block
     c.in_ok-block.ensures.block (g.O.Sink.written c.put_all.new.sink)
-    (subst (GrowsByFront (g.O.Sink.written c.loop-block.out) (g.O.Sink.written c.put_all.new.sink))
+    (subst (SinkGrowsByPrefix (g.O.Sink.written c.loop-block.out) (g.O.Sink.written c.put_all.new.sink))
     c.as_bytes.ensures c.in-Err.ensures.front))
 
 pub loop-block-smaller : goal.loop-block-smaller
 loop-block-smaller g c =
-    subst (λ (i : Input). length i.records < length c.loop-block.columns.records) (sym c.in_ok-block.ensures.left)
-    (fewer (table c.loop-block.table.deck) c.args.self.now.options c.as_bytes-from.result.now c.as_bytes-to.result.now
+    subst (λ (i : ColumnInput). length i.records < length c.loop-block.columns.records) (sym c.in_ok-block.ensures.left)
+    (column_run_records_get_fewer (table_of_deck c.loop-block.table.deck) c.args.self.now.options
+    c.as_bytes-from.result.now c.as_bytes-to.result.now
     1023 c.loop-block.columns
     c.in_ok-block.block.rows (ap (λ (b : Block). b.rows) c.in_ok-block.ensures.block) c.if-block-eq0.false)
 
@@ -99,7 +100,7 @@ pub loop-block-preserved : goal.loop-block-preserved
 loop-block-preserved g c = record {
   later = omega (arith, c.loop-block.invariant.later, c.put_all.ensures.cause.count_grows);
   at = subst
-      (λ (i : Input). IsUnderway c.args.self.now.options c.as_bytes-from.result.now c.as_bytes-to.result.now
+      (λ (i : ColumnInput). IsUnderway c.args.self.now.options c.as_bytes-from.result.now c.as_bytes-to.result.now
       c.args.columns.now
       (g.O.Sink.written c.args.out.now) c.args.self.now.table c.args.steps.now i c.either-refused.result
       (g.O.Sink.written c.put_all.new.sink) c.next_rows.new.table c.next_rows.new.steps)
@@ -110,5 +111,5 @@ loop-block-preserved g c = record {
       c.blocks_law.ensures 1024 c.next_rows.new.table c.next_rows.new.steps c.next_rows.ensures.deck
       c.in_ok-block.ensures.queries c.in_ok-block.block c.in_ok-block.ensures.block c.either-refused.result
       (g.O.Sink.written c.put_all.new.sink) c.either-refused.ensures
-      (c.in-Ok.ensures.all ∙ ap (known_append (g.O.Sink.written c.loop-block.out)) c.as_bytes.ensures));
+      (c.in-Ok.ensures.all ∙ ap (sink_bytes_append (g.O.Sink.written c.loop-block.out)) c.as_bytes.ensures));
 }

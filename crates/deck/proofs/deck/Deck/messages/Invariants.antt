@@ -1,8 +1,9 @@
 use Rattle.std.proofs.Common.{◌≡◌, ◌++◌, drop}
-use Rattle.deck.specs.Messages.{message_in, texts_of_lines, where_true}
+use Rattle.deck.specs.Messages.{active_lines_by_flags, deck_message_of_line, texts_of_deck_lines}
 use Rattle.deck.proofs.deck.Deck.messages.Given as goal
 
 abbrev pub invariant-loop-i : goal.invariant-loop-i
 invariant-loop-i l =
-    l.texts ++ texts_of_lines message_in (where_true (drop l.i l.flags.items) (drop l.i l.self.lines))
-    ≡ texts_of_lines message_in (where_true l.flags.items l.self.lines)
+    l.texts ++ texts_of_deck_lines deck_message_of_line
+    (active_lines_by_flags (drop l.i l.flags.items) (drop l.i l.self.lines))
+    ≡ texts_of_deck_lines deck_message_of_line (active_lines_by_flags l.flags.items l.self.lines)

@@ -1,13 +1,13 @@
 use Rattle.std.proofs.Common.{◌≡◌, List, ℕ, Ok, sym, ap, subst, ◌∙◌}
 use Rattle.deck_lines.specs.declared.line.DeckLine.{DeckLine}
-use Rattle.deck.specs.Changes.{IsTableChange}
-use Rattle.deck.specs.Decks.{Contents}
-use Rattle.deck.specs.Edits.{after_switch}
-use Rattle.deck.specs.LastPlaces.{AreLast}
-use Rattle.deck.specs.SettingChanges.{with_locale}
-use Rattle.deck.specs.Tables.{active_definitions, table, table_of}
+use Rattle.deck.specs.Changes.{IsDeckTableChange}
+use Rattle.deck.specs.Decks.{DeckContents}
+use Rattle.deck.specs.Edits.{deck_after_switching}
+use Rattle.deck.specs.LastPlaces.{AreLastDefinitionPlaces}
+use Rattle.deck.specs.SettingChanges.{settings_with_locale}
+use Rattle.deck.specs.Tables.{active_definitions, table_of_deck, table_of_deck_definitions}
 use Rattle.deck.specs.declared.settings.Settings.{Settings}
-use Rattle.deck.proofs.PlacedDefinitions.{in_place}
+use Rattle.deck.proofs.PlacedDefinitions.{active_definitions_in_place}
 use Rattle.deck.proofs.SettingChanges.{deck_of, settings_of}
 use Rattle.deck.proofs.deck.Deck.set_locale.Goals as goal
 
@@ -20,14 +20,17 @@ returns c =
     let are : c.with_locale-settings.result ≡ now =
     c.with_locale-settings.ensures
     ∙ ap (λ (l : List ℕ). settings_of l s.settings.vars) (sym c.in_ok-self-inside.ensures) in (
-      ap (λ (d : Contents). Ok (after_switch (with_locale d.settings locale) d)) (sym c.self.view_is)
+      ap (λ (d : DeckContents). Ok (deck_after_switching (settings_with_locale d.settings locale) d))
+          (sym c.self.view_is)
           ∙ ap (λ (l : List ℕ). Ok (deck_of lines s.notices (settings_of l s.settings.vars)))
           (sym c.in_ok-self-inside.ensures),
-      subst (λ (d : Contents). IsTableChange (table d) (table_of (active_definitions now lines)) c.in_ok-keys.keys)
+      subst (λ (d : DeckContents). IsDeckTableChange (table_of_deck d)
+          (table_of_deck_definitions (active_definitions now lines)) c.in_ok-keys.keys)
           c.self.view_is
           (c.in_ok-keys.ensures (active_definitions s.settings lines) (active_definitions now lines)
-          (in_place s.settings lines)
-          (in_place now lines) c.self.invariant.indexed.places
-          (subst (λ (t : Settings). AreLast s.store.names (active_definitions t lines) c.in_ok-last.last) are
+          (active_definitions_in_place s.settings lines)
+          (active_definitions_in_place now lines) c.self.invariant.indexed.places
+          (subst (λ (t : Settings). AreLastDefinitionPlaces s.store.names (active_definitions t lines)
+          c.in_ok-last.last) are
           c.in_ok-last.ensures)),
     )

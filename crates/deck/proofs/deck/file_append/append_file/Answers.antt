@@ -1,27 +1,29 @@
 use Rattle.std.proofs.Common.{◌∙◌, ap, subst, sym}
-use Rattle.deck_lines.specs.Loads.{Extends}
-use Rattle.deck_lines.specs.Stores.{Store}
+use Rattle.deck_lines.specs.Loads.{ExtendsStore}
+use Rattle.deck_lines.specs.Stores.{LineStoreView}
 use Rattle.std.specs.Prelude.{Result}
-use Rattle.deck.specs.FileLoads.{IsLoadRead, after_append}
+use Rattle.deck.specs.FileLoads.{IsDeckLoadRead, deck_after_appending}
 use Rattle.deck.specs.declared.deck.file_append.PlaceChanges.{PlaceChanges}
 use Rattle.deck.specs.declared.fault.DeckFault.{DeckFault}
-use Rattle.deck.proofs.MoreNumbers.{front_kept, indexed_again}
+use Rattle.deck.proofs.MoreNumbers.{deck_indexed_after_refusal, old_deck_lines_are_front}
 use Rattle.deck.proofs.deck.file_append.append_file.Goals as goal
 
 pub returns-in-Err-clause-stays : goal.returns-in-Err-clause-stays
 returns-in-Err-clause-stays g c =
-    let behind : Extends c.args.store.now c.load_changes-changes.new.draft.store =
-    subst (λ (s : Store). Extends s c.load_changes-changes.new.draft.store) c.draft_of-draft.ensures.store
+    let behind : ExtendsStore c.args.store.now c.load_changes-changes.new.draft.store =
+    subst (λ (s : LineStoreView). ExtendsStore s c.load_changes-changes.new.draft.store) c.draft_of-draft.ensures.store
     c.load_changes-changes.ensures.extends in
-    indexed_again c.args.store.now c.load_changes-changes.new.draft.store c.truncate.new.self c.args.settings.now
+    deck_indexed_after_refusal c.args.store.now c.load_changes-changes.new.draft.store c.truncate.new.self
+    c.args.settings.now
     c.args.last.now c.len-len.ensures.numbering c.requires behind
     (c.truncate.ensures.lines
-    ∙ front_kept c.args.store.now c.load_changes-changes.new.draft.store c.len-len.result c.len-len.ensures.count
+    ∙ old_deck_lines_are_front c.args.store.now c.load_changes-changes.new.draft.store c.len-len.result
+    c.len-len.ensures.count
     behind) c.truncate.ensures.names
 
 pub returns-in-Err-clause-told : goal.returns-in-Err-clause-told
 returns-in-Err-clause-told g c m d told lines =
-    subst (λ (r : Result PlaceChanges DeckFault). IsLoadRead (after_append m c.args.name.now d) d
+    subst (λ (r : Result PlaceChanges DeckFault). IsDeckLoadRead (deck_after_appending m c.args.name.now d) d
     c.load_changes-changes.new.draft.store.lines c.load_changes-changes.new.draft.notices r)
     c.in-Err.is (c.load_changes-changes.ensures.told m d told
-    (lines ∙ sym (ap (λ (s : Store). s.lines) c.draft_of-draft.ensures.store)))
+    (lines ∙ sym (ap (λ (s : LineStoreView). s.lines) c.draft_of-draft.ensures.store)))

@@ -1,6 +1,6 @@
 use Rattle.std.proofs.Common.{ap, ◌∙◌, sym, refl, Some, None, option_map}
 use Rattle.std.proofs.lemmas.Option.{slice_get_past, slice_get_read}
-use Rattle.deck_lines.specs.StoredDefinitions.{keyed_definition}
+use Rattle.deck_lines.specs.StoredDefinitions.{keyed_store_definition}
 use Rattle.deck_lines.proofs.DefinitionsByNumber.{defined_at, undefined_at}
 use Rattle.deck_lines.proofs.store.definitions.definition_in.Goals as goal
 
@@ -20,5 +20,5 @@ returns-in-Some-None c = λ names lines are.
 
 pub returns-in-None : goal.returns-in-None
 returns-in-None c = λ names lines are.
-    sym (ap (option_map keyed_definition) (undefined_at names c.args.definitions.now lines c.args.place are
+    sym (ap (option_map keyed_store_definition) (undefined_at names c.args.definitions.now lines c.args.place are
     (slice_get_past c.args.definitions.now c.args.place c.in-None.ensures.lookup.3)))

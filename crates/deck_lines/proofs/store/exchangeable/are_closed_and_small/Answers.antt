@@ -2,11 +2,11 @@ use Rattle.std.proofs.Common.{◌≡◌, ◌+◌, [], List, Some, None, cond, dr
 use Rattle.std.proofs.lemmas.Bool.{false≢true}
 use Rattle.std.proofs.lemmas.List.{drop_all}
 use Rattle.deck_lines.specs.ClosedBlocks.{blocks_after}
-use Rattle.deck_lines.specs.Limits.{most_bytes, text_len}
-use Rattle.deck_lines.specs.Origins.{exchanged_lines}
+use Rattle.deck_lines.specs.Limits.{most_store_bytes, stored_text_len}
+use Rattle.deck_lines.specs.Origins.{exchanged_store_lines}
 use Rattle.deck_lines.specs.declared.line.BorrowedLine.{BorrowedLine}
 use Rattle.deck_lines.specs.declared.line.DeckLine.{DeckLine}
-use Rattle.deck_lines.proofs.Exchangeable.{at_end, blocks_more, not_closed, texts_more, too_long}
+use Rattle.deck_lines.proofs.Exchangeable.{blocks_more, no_block_open_at_end, not_closed, texts_more, too_long}
 use Rattle.deck_lines.proofs.ExchangedItems.{exchanged_len}
 use Rattle.deck_lines.proofs.store.exchangeable.are_closed_and_small.Goals as goal
 use Rattle.general_lemmas.proofs.Places.{drop_at}
@@ -27,7 +27,7 @@ line_at-line-requires-clause-inside c =
 
 pub loop-place-preserved : goal.loop-place-preserved
 loop-place-preserved c =
-    let after : List DeckLine = exchanged_lines c.args.at c.args.cut c.args.put.now c.args.store.now.lines in
+    let after : List DeckLine = exchanged_store_lines c.args.at c.args.cut c.args.put.now c.args.store.now.lines in
     let i = c.loop-place.place in
     let line : DeckLine = lent_line c.line_at-line.result in
     let there = drop_at after i line c.line_at-line.ensures in
@@ -43,7 +43,7 @@ loop-place-preserved c =
 
 pub returns-then-room-len : goal.returns-then-room-len
 returns-then-room-len c =
-    let after : List DeckLine = exchanged_lines c.args.at c.args.cut c.args.put.now c.args.store.now.lines in
+    let after : List DeckLine = exchanged_store_lines c.args.at c.args.cut c.args.put.now c.args.store.now.lines in
     let i = c.loop-place.place in
     let line : DeckLine = lent_line c.line_at-line.result in (
       λ t. absurd (false≢true t),
@@ -54,7 +54,7 @@ returns-then-room-len c =
 
 pub returns-then-not-passes : goal.returns-then-not-passes
 returns-then-not-passes c =
-    let after : List DeckLine = exchanged_lines c.args.at c.args.cut c.args.put.now c.args.store.now.lines in
+    let after : List DeckLine = exchanged_store_lines c.args.at c.args.cut c.args.put.now c.args.store.now.lines in
     let i = c.loop-place.place in
     let line : DeckLine = lent_line c.line_at-line.result in
     let now = reverse c.pass_line.new.endings.items in (
@@ -67,7 +67,7 @@ returns-then-not-passes c =
 
 pub returns : goal.returns
 returns c =
-    let after : List DeckLine = exchanged_lines c.args.at c.args.cut c.args.put.now c.args.store.now.lines in
+    let after : List DeckLine = exchanged_store_lines c.args.at c.args.cut c.args.put.now c.args.store.now.lines in
     let none : drop c.loop-place.place after ≡ [] =
     drop_all c.loop-place.place after
     (omega (
@@ -77,7 +77,7 @@ returns c =
       c.len.ensures.count,
       exchanged_len c.args.store.now.lines c.args.put.now c.args.at c.args.cut c.requires.places,
     )) in
-    at_end after c.loop-place.endings.items _ c.loop-place.room c.is_empty.result c.is_empty.ensures
+    no_block_open_at_end after c.loop-place.endings.items _ c.loop-place.room c.is_empty.result c.is_empty.ensures
     c.loop-place.endings.ok.0
     (sym (ap (blocks_after (reverse c.loop-place.endings.items)) none) ∙ c.loop-place.invariant.closed)
-    (sym (ap (λ ls. text_len ls + most_bytes) none) ∙ c.loop-place.invariant.room)
+    (sym (ap (λ ls. stored_text_len ls + most_store_bytes) none) ∙ c.loop-place.invariant.room)

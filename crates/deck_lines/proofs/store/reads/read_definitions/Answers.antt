@@ -1,5 +1,5 @@
-use Rattle.deck_lines.specs.NumberedKeys.{names_in}
-use Rattle.deck_lines.proofs.DefinitionsByNumber.{defined_more}
+use Rattle.deck_lines.specs.NumberedKeys.{key_number_names_in}
+use Rattle.deck_lines.proofs.DefinitionsByNumber.{store_defined_more}
 use Rattle.deck_lines.proofs.store.reads.read_definitions.Goals as goal
 
 pub loop-line-preserved : goal.loop-line-preserved
@@ -7,7 +7,8 @@ loop-line-preserved c = record {
   extended = λ n k e. c.in_ok-definition.ensures.extended n k (c.loop-line.invariant.extended n k e);
   unique = λ h. c.in_ok-definition.ensures.unique (c.loop-line.invariant.unique h);
   defined =
-      defined_more (names_in c.loop-line.keys) (names_in c.definition_of.new.keys) c.in_ok-definition.ensures.extended
+      store_defined_more (key_number_names_in c.loop-line.keys) (key_number_names_in c.definition_of.new.keys)
+      c.in_ok-definition.ensures.extended
       c.loop-line.definitions.items _ c.in_ok-definition.definition
       c.args.lines.now c.loop-line.line-index c.line-item.result c.loop-line-test.true c.line-item.is
       c.in_ok-push.ensures.items c.in_ok-definition.ensures.ok c.loop-line.invariant.defined;

@@ -1,7 +1,7 @@
 use Rattle.std.proofs.Common.{rules, ◌≡◌, ◌+◌, ◌++◌, [], ◌∷◌, ℕ, List, length, sym, ◌∙◌, ap, subst}
-use Rattle.edge_links.specs.Edges.{EdgeGraph}
-use Rattle.edge_links.specs.Owners.{Owners}
-use Rattle.edge_links.specs.PlaceView.{graph_of, AreLinks}
+use Rattle.edge_links.specs.Edges.{LinkGraph}
+use Rattle.edge_links.specs.Owners.{LinkOwners}
+use Rattle.edge_links.specs.PlaceView.{link_graph_of, AreLinks}
 use Rattle.edge_links.proofs.AddedPlaces.{begun_links, begun_shown, node_links, node_shown}
 use Rattle.edge_links.proofs.links.Links.add_node.Goals as goal
 
@@ -10,16 +10,16 @@ invariant_of-self-in_err-place c =
     let begun = begun_links c.self.inside.places c.begin.new.self c.self.inside.nodes.items c.self.invariant
     c.begin.ensures.begun in
     subst (λ (xs : List ℕ). AreLinks c.add_head.new.self xs) (sym c.reserve.ensures.items)
-    (subst (λ (s : Owners). AreLinks s c.self.inside.nodes.items) (sym c.in_err-place.ensures.err) begun)
+    (subst (λ (s : LinkOwners). AreLinks s c.self.inside.nodes.items) (sym c.in_err-place.ensures.err) begun)
 
 pub returns-in_err-place-clause-err : goal.returns-in_err-place-clause-err
 returns-in_err-place-clause-err c =
-    let before : graph_of c.begin.new.self c.self.inside.nodes.items ≡ c.args.self.now =
+    let before : link_graph_of c.begin.new.self c.self.inside.nodes.items ≡ c.args.self.now =
     begun_shown c.self.inside.places c.begin.new.self c.self.inside.nodes.items c.self.invariant c.begin.ensures.begun
     ∙ c.self.view_is in
-    let same : graph_of c.add_head.new.self c.reserve.new.self.items ≡ c.args.self.now =
-    ap (λ xs. graph_of c.add_head.new.self xs) c.reserve.ensures.items ∙
-    (ap (λ (s : Owners). graph_of s c.self.inside.nodes.items) c.in_err-place.ensures.err ∙ before) in
+    let same : link_graph_of c.add_head.new.self c.reserve.new.self.items ≡ c.args.self.now =
+    ap (λ xs. link_graph_of c.add_head.new.self xs) c.reserve.ensures.items ∙
+    (ap (λ (s : LinkOwners). link_graph_of s c.self.inside.nodes.items) c.in_err-place.ensures.err ∙ before) in
     search rules
 
 pub invariant_of-self-2 : goal.invariant_of-self-2
@@ -39,14 +39,14 @@ returns-clause-ok c =
     c.begin.ensures.begun in
     let node : c.len-node.result ≡ length c.self.inside.nodes.items = search rules in
     let named : c.in_ok-name.name ≡ length c.self.inside.nodes.items = c.in_ok-name.ensures.0 ∙ node in
-    let before : graph_of c.begin.new.self c.self.inside.nodes.items ≡ c.args.self.now =
+    let before : link_graph_of c.begin.new.self c.self.inside.nodes.items ≡ c.args.self.now =
     begun_shown c.self.inside.places c.begin.new.self c.self.inside.nodes.items c.self.invariant c.begin.ensures.begun
     ∙ c.self.view_is in (
-      node ∙ ap (λ (g : EdgeGraph). g.nodes) before,
+      node ∙ ap (λ (g : LinkGraph). g.nodes) before,
       node_shown c.begin.new.self c.add_head.new.self c.self.inside.nodes.items c.in_ok-place.place c.in_ok-name.name
           c.in_ok-place.ensures.was begun c.in_ok-begin.ensures.some c.in_ok-place.ensures.ok.0
           c.in_ok-place.ensures.ok.1
           c.push_reserved.new.self.items named
           (c.push_reserved.ensures.items ∙ ap (λ xs. xs ++ c.in_ok-place.place ∷ []) c.reserve.ensures.items)
-          ∙ ap (λ (g : EdgeGraph). record g { nodes = g.nodes + 1 }) before,
+          ∙ ap (λ (g : LinkGraph). record g { nodes = g.nodes + 1 }) before,
     )

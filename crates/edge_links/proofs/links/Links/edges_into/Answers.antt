@@ -1,21 +1,21 @@
 use Rattle.std.proofs.Common.{◌≡◌, ℕ, ◌<◌, List, length, get_or, take, sym, ◌∙◌, ap, subst}
 use Rattle.std.proofs.lemmas.List.{take_more, get_or_read, take_all}
-use Rattle.edge_links.specs.Edges.{EdgeGraph, edge_count}
-use Rattle.edge_links.specs.Rings.{AreMembers}
-use Rattle.edge_links.proofs.Users.{has_user, user_put, stands_in, member_there, are_users}
+use Rattle.edge_links.specs.Edges.{LinkGraph, link_edge_count}
+use Rattle.edge_links.specs.Rings.{AreLinkRingMembers}
+use Rattle.edge_links.proofs.Users.{has_user, link_user_is_appended, stands_in, member_there, are_users}
 use Rattle.edge_links.proofs.WeightedSums.{summed}
 use Rattle.edge_links.proofs.links.Links.edges_into.Goals as goal
 
 members_of : (keys nodes items seen : List ℕ) (key head : ℕ) → key < length nodes → head ≡ get_or nodes key head
     → seen ≡ items
-    → AreMembers keys head items → AreMembers keys (get_or nodes key 0) seen
+    → AreLinkRingMembers keys head items → AreLinkRingMembers keys (get_or nodes key 0) seen
 members_of keys nodes items seen key head l e s m =
-    subst (λ xs. AreMembers keys (get_or nodes key 0) xs) (sym s)
-    (subst (λ h. AreMembers keys h items) (get_or_read nodes key head l e 0) m)
+    subst (λ xs. AreLinkRingMembers keys (get_or nodes key 0) xs) (sym s)
+    (subst (λ h. AreLinkRingMembers keys h items) (get_or_read nodes key head l e 0) m)
 
 pub user_of-user-requires : goal.user_of-user-requires
 user_of-user-requires c =
-    let there = subst (λ (x : EdgeGraph). c.args.key < x.nodes) (sym c.self.view_is) c.requires in
+    let there = subst (λ (x : LinkGraph). c.args.key < x.nodes) (sym c.self.view_is) c.requires in
     let members = members_of c.self.inside.places.keys c.self.inside.nodes.items c.in_ok-places.places.items
     c.deref-place-items.result.now
     c.args.key c.index.result.now there c.index.ensures
@@ -31,7 +31,7 @@ loop-place-preserved c x =
     let place : ℕ = get_or c.deref-place-items.result.now c.loop-place.place-index 0 in
     let name : c.name.result ≡ get_or c.self.inside.places.names (get_or c.self.inside.places.users place 0) 0 =
     c.name.ensures ∙ ap (λ u. get_or c.self.inside.places.names u 0) c.user_of-user.ensures.0 in
-    user_put c.self.inside.places c.loop-place.users c.push.new.self
+    link_user_is_appended c.self.inside.places c.loop-place.users c.push.new.self
     (take c.loop-place.place-index c.deref-place-items.result.now) place
     c.name.result x name
     c.in_ok-push.ensures.ok (c.loop-place.invariant x)
@@ -40,7 +40,7 @@ loop-place-preserved c x =
 
 pub returns : goal.returns
 returns c x =
-    let there = subst (λ (x : EdgeGraph). c.args.key < x.nodes) (sym c.self.view_is) c.requires in
+    let there = subst (λ (x : LinkGraph). c.args.key < x.nodes) (sym c.self.view_is) c.requires in
     let members = members_of c.self.inside.places.keys c.self.inside.nodes.items c.in_ok-places.places.items
     c.deref-place-items.result.now
     c.args.key c.index.result.now there c.index.ensures
@@ -50,4 +50,4 @@ returns c x =
     c.deref-place-items.result.now members
     c.loop-place.users (λ y. c.loop-place.invariant y ∙ ap (summed (has_user c.self.inside.places y))
     (take_all c.loop-place.place-index c.deref-place-items.result.now c.loop-place-test.false)) x
-    ∙ ap (λ (g : EdgeGraph). edge_count g.edges x c.args.key) c.self.view_is
+    ∙ ap (λ (g : LinkGraph). link_edge_count g.edges x c.args.key) c.self.view_is

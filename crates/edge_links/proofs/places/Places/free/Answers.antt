@@ -1,18 +1,20 @@
 use Rattle.std.proofs.Common.{◌≡◌, ◌+◌, ◌<◌, length, get_or, sym, subst, ap, ◌∙◌, arith}
 use Rattle.edge_links.specs.declared.slots.Side.TheVariants.{Key}
-use Rattle.edge_links.specs.Owners.{Owners, ArePlaces, with_owner}
-use Rattle.edge_links.proofs.OwnerChanges.{freed_places, spare_fits}
+use Rattle.edge_links.specs.Owners.{LinkOwners, AreLinkPlaces, link_owners_with_owner}
+use Rattle.edge_links.proofs.OwnerChanges.{link_places_after_freeing, link_spare_fits_64_bits}
 use Rattle.edge_links.proofs.places.Places.free.Goals as goal
 
 pub overflow_add-self : goal.overflow_add-self
-overflow_add-self c = omega (arith, spare_fits c.self.inside.rings c.self.inside.spare c.self.invariant)
+overflow_add-self c = omega (arith, link_spare_fits_64_bits c.self.inside.rings c.self.inside.spare c.self.invariant)
 
 pub invariant_of-self : goal.invariant_of-self
 invariant_of-self c =
-    let there = subst (λ (x : Owners). c.args.place < length x.users) (sym c.self.view_is) c.requires.there in
+    let there = subst (λ (x : LinkOwners). c.args.place < length x.users) (sym c.self.view_is) c.requires.there in
     let edge =
-    subst (λ (x : Owners). (get_or x.users c.args.place 0 ≡ c.args.place → ⊥) × (get_or x.users c.args.place 0 ≡ 0 → ⊥))
+    subst (λ (x : LinkOwners).
+    (get_or x.users c.args.place 0 ≡ c.args.place → ⊥) × (get_or x.users c.args.place 0 ≡ 0 → ⊥))
     (sym c.self.view_is) c.requires.edge in
-    subst (λ (x : Owners). ArePlaces x (c.self.inside.spare + 1))
-    (sym (c.move_to-2.ensures ∙ ap (λ (x : Owners). with_owner Key x c.args.place 0) c.move_to.ensures))
-    (freed_places c.self.inside.rings c.args.place c.self.inside.spare c.self.invariant there edge.0 edge.1)
+    subst (λ (x : LinkOwners). AreLinkPlaces x (c.self.inside.spare + 1))
+    (sym (c.move_to-2.ensures ∙ ap (λ (x : LinkOwners). link_owners_with_owner Key x c.args.place 0) c.move_to.ensures))
+    (link_places_after_freeing c.self.inside.rings c.args.place c.self.inside.spare c.self.invariant there edge.0
+    edge.1)

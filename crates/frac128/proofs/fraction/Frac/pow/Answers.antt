@@ -2,7 +2,7 @@ use Rattle.std.proofs.Common.{SFits, arith, ◌∙◌}
 use mir.Syntax.{w32}
 use Rattle.std.proofs.lemmas.Int.{to_z-of_z}
 use Rattle.std.proofs.lemmas.Nat.Gcd.{IsGcd-swap}
-use Rattle.frac128.proofs.Powers.{IsMade, power_at, power_below}
+use Rattle.frac128.proofs.Powers.{IsMade, fraction_power_at, fraction_power_below}
 use Rattle.frac128.proofs.fraction.Frac.pow.Goals as goal
 
 pub raise_parts-requires-clause-lowest : goal.raise_parts-requires-clause-lowest
@@ -23,7 +23,7 @@ returns-then-k-ge0 c =
       lowest = c.top-top.ensures.lowest;
     } in
     c.raise_parts.ensures
-    ∙ power_at _ _ _ _ _ _ made (simp to_z-of_z at c.unsigned_abs-times.ensures.value)
+    ∙ fraction_power_at _ _ _ _ _ _ made (simp to_z-of_z at c.unsigned_abs-times.ensures.value)
     (simp to_z-of_z at c.if-k-ge0.true)
 
 pub returns-else-top-eq0 : goal.returns-else-top-eq0
@@ -38,5 +38,5 @@ returns-else-top-eq0 c =
       lowest = c.top-top.ensures.lowest;
     } in
     c.raise_parts-else-top-eq0.ensures
-    ∙ power_below _ _ _ _ _ _ made (simp to_z-of_z at c.unsigned_abs-times.ensures.value)
+    ∙ fraction_power_below _ _ _ _ _ _ made (simp to_z-of_z at c.unsigned_abs-times.ensures.value)
     (simp to_z-of_z at c.if-k-ge0.false) (omega arith)

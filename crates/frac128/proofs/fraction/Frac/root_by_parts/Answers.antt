@@ -1,7 +1,7 @@
 use Rattle.std.proofs.Common.{◌≡◌, ◌%◌, true, false, sym, subst, ◌∙◌}
-use Rattle.frac128.specs.Roots.{IsRootAnswer}
+use Rattle.frac128.specs.Roots.{IsFractionRootAnswer}
 use Rattle.frac128.proofs.Powers.{IsMade}
-use Rattle.frac128.proofs.Roots.{root_lowest, root_made, root_some}
+use Rattle.frac128.proofs.Roots.{fraction_root_fits, roots_are_coprime, whole_root_some}
 use Rattle.frac128.proofs.fraction.Frac.root_by_parts.Goals.{else-negative-via-then-negative+else-q-eq0}
 use Rattle.frac128.proofs.fraction.Frac.root_by_parts.Goals.{else-negative-via-else-negative}
 use Rattle.frac128.proofs.fraction.Frac.root_by_parts.Goals as goal
@@ -10,11 +10,11 @@ differs : true ≡ false → ⊥
 differs e = cc
 
 pub of_lowest_terms-requires-clause-some : goal.of_lowest_terms-requires-clause-some
-of_lowest_terms-requires-clause-some c = root_some _ _ _ c.requires c.in-Some-Some.ensures' c.bottom.ensures.some
+of_lowest_terms-requires-clause-some c = whole_root_some _ _ _ c.requires c.in-Some-Some.ensures' c.bottom.ensures.some
 
 pub of_lowest_terms-requires-clause-lowest : goal.of_lowest_terms-requires-clause-lowest
 of_lowest_terms-requires-clause-lowest c =
-    root_lowest _ _ _ _ _ c.requires c.in-Some-Some.ensures c.in-Some-Some.ensures'
+    roots_are_coprime _ _ _ _ _ c.requires c.in-Some-Some.ensures c.in-Some-Some.ensures'
     (rw c.bottom.ensures.is c.top.ensures.lowest)
 
 pub returns-in-Some-Some : goal.returns-in-Some-Some
@@ -30,6 +30,6 @@ returns-in-Some-Some c =
       | else-negative-via-then-negative+else-q-eq0 w ↦ λ e h. w.if-q-eq0.false h
       | else-negative-via-else-negative w ↦ λ e h. differs (sym e ∙ w.if-negative.false)
     ] in
-    subst (IsRootAnswer c.args.self.now c.args.q) (sym c.of_lowest_terms.ensures)
-    (root_made _ _ _ _ _ _ _ made c.requires c.in-Some-Some.ensures c.in-Some-Some.ensures' c.top.ensures.fits
+    subst (IsFractionRootAnswer c.args.self.now c.args.q) (sym c.of_lowest_terms.ensures)
+    (fraction_root_fits _ _ _ _ _ _ _ made c.requires c.in-Some-Some.ensures c.in-Some-Some.ensures' c.top.ensures.fits
     c.bottom.ensures.fits odd)

@@ -2,29 +2,29 @@ use Rattle.std.proofs.Common.{◌≡◌, ◌<◌, ◌<ℤ◌, ◌≤◌, ◌^◌
 use Rattle.std.proofs.Common.{arith, sym, ap, ◌∙◌}
 use mir.Syntax.{w128}
 use Rattle.std.proofs.lemmas.Int.{ints, to_z-of_z}
-use Rattle.frac128.specs.Fraction.{most}
-use Rattle.frac128.specs.Sign.{number_with_sign}
+use Rattle.frac128.specs.Fraction.{largest_fraction_part}
+use Rattle.frac128.specs.Sign.{signed_numerator}
 use Rattle.frac128.specs.Steps.{ratio}
-use Rattle.frac128.specs.Sums.{sum_over}
-use Rattle.frac128.proofs.Signs.{signed_is}
-use Rattle.frac128.proofs.Sums.{sum_over-ratio}
+use Rattle.frac128.specs.Sums.{fraction_sum_over}
+use Rattle.frac128.proofs.Signs.{numerator_is_signed}
+use Rattle.frac128.proofs.Sums.{fraction_sum_over-ratio}
 use Rattle.frac128.proofs.fraction.Frac.sum_over.Goals as goal
 
 -- a number of 128 bits other than the least one is in range
-not_least : (z : ℤ) → SFits w128 z → (of_z w128 z ≡ 2 ^ 127 → ⊥) → unsigned_abs z ≤ most
+not_least : (z : ℤ) → SFits w128 z → (of_z w128 z ≡ 2 ^ 127 → ⊥) → unsigned_abs z ≤ largest_fraction_part
 not_least (pos n) fits other = let h = fits.sfits in omega arith
 not_least (negsuc n) fits other = let h = fits.sfits in omega arith
 
 -- a ratio with a denominator above 0, computed from its sign and magnitudes
 ratio_over : (sum m : ℤ) (top bottom : ℕ) → top ≡ unsigned_abs sum → bottom ≡ unsigned_abs m → pos 0 <ℤ m
-    → unsigned_abs m ≤ most
-    → unsigned_abs sum ≤ most
-    → ratio (number_with_sign (int_lt sum (pos 0)) top) (pos bottom) ≡ sum_over (unsigned_abs m) sum
+    → unsigned_abs m ≤ largest_fraction_part
+    → unsigned_abs sum ≤ largest_fraction_part
+    → ratio (signed_numerator (int_lt sum (pos 0)) top) (pos bottom) ≡ fraction_sum_over (unsigned_abs m) sum
 ratio_over sum (pos m) top bottom p q some low h =
-    ap (λ k. ratio (number_with_sign (int_lt sum (pos 0)) k) (pos bottom)) p
-    ∙ ap (λ k. ratio (number_with_sign (int_lt sum (pos 0)) (unsigned_abs sum)) (pos k)) q
-    ∙ ap (λ z. ratio z (pos m)) (sym (signed_is sum))
-    ∙ sum_over-ratio m sum (omega (arith, ints)) low h
+    ap (λ k. ratio (signed_numerator (int_lt sum (pos 0)) k) (pos bottom)) p
+    ∙ ap (λ k. ratio (signed_numerator (int_lt sum (pos 0)) (unsigned_abs sum)) (pos k)) q
+    ∙ ap (λ z. ratio z (pos m)) (sym (numerator_is_signed sum))
+    ∙ fraction_sum_over-ratio m sum (omega (arith, ints)) low h
 ratio_over sum (negsuc m) top bottom p q some low h = absurd (omega (arith, ints))
 
 -- a number above 0 has a magnitude above 0
@@ -59,8 +59,8 @@ returns-in-Some c =
     let bottom = simp to_z-of_z at c.unsigned_abs-bottom.ensures.value in
     let back : to_z w128 (of_z w128 c.in-Some.sum) ≡ c.in-Some.sum = simp to_z-of_z in
     c.reduce_by.ensures
-    ∙ ap (λ z. ratio (number_with_sign (int_lt z (pos 0)) c.unsigned_abs-top.result) (pos c.unsigned_abs-bottom.result))
+    ∙ ap (λ z. ratio (signed_numerator (int_lt z (pos 0)) c.unsigned_abs-top.result) (pos c.unsigned_abs-bottom.result))
     back
     ∙ ratio_over c.in-Some.sum c.args.multiple _ _ top bottom c.requires.some c.requires.multiple
     (not_least _ fits_sum c.if-sum.true)
-    ∙ ap (sum_over (unsigned_abs c.args.multiple)) facts.1
+    ∙ ap (fraction_sum_over (unsigned_abs c.args.multiple)) facts.1

@@ -1,6 +1,6 @@
 use Rattle.std.proofs.Common.{◌≤◌, ap, ◌∙◌, arith, length, sym, slice_get}
 use Rattle.std.proofs.lemmas.Option.{slice_get_past}
-use Rattle.gap_list.proofs.SlotItems.{item_in_slot, length-without}
+use Rattle.gap_list.proofs.SlotItems.{item_in_slot, length-items_without_gaps}
 use Rattle.gap_list.proofs.list.GapList.get.Goals as goal
 
 pub returns-in-Some : goal.returns-in-Some
@@ -16,7 +16,7 @@ returns-in-None g c =
     omega (
       arith,
       c.in-None.ensures.none,
-      length-without 0 c.self.inside.gaps c.self.inside.slots.items c.self.invariant,
+      length-items_without_gaps 0 c.self.inside.gaps c.self.inside.slots.items c.self.invariant,
       c.self.inside.slots.ok.0,
       c.self.inside.slots.ok.1,
       c.self.inside.slots.small,

@@ -1,5 +1,5 @@
 use Rattle.std.proofs.Common.{ap, arith, length}
-use Rattle.gap_list.proofs.SlotItems.{length-without}
+use Rattle.gap_list.proofs.SlotItems.{length-items_without_gaps}
 use Rattle.gap_list.proofs.list.GapList.len.Goals as goal
 
 pub overflow_sub-result : goal.overflow_sub-result
@@ -8,7 +8,7 @@ overflow_sub-result g c =
       arith,
       c.len.ensures,
       c.len-2.ensures,
-      length-without 0 c.self.inside.gaps c.self.inside.slots.items c.self.invariant,
+      length-items_without_gaps 0 c.self.inside.gaps c.self.inside.slots.items c.self.invariant,
       c.self.inside.slots.ok.0,
     )
 
@@ -18,7 +18,7 @@ returns g c =
       arith,
       c.len.ensures,
       c.len-2.ensures,
-      length-without 0 c.self.inside.gaps c.self.inside.slots.items c.self.invariant,
+      length-items_without_gaps 0 c.self.inside.gaps c.self.inside.slots.items c.self.invariant,
       c.self.inside.slots.ok.0,
       ap (λ l. length l.listed) c.self.view_is,
     )

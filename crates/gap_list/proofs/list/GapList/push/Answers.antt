@@ -1,5 +1,5 @@
 use Rattle.std.proofs.Common.{◌++◌, ◌∷◌, [], ap, ◌∙◌, arith, length, length-append}
-use Rattle.gap_list.specs.Gaps.{items_without}
+use Rattle.gap_list.specs.Gaps.{items_without_gaps}
 use Rattle.gap_list.proofs.SlotItems.{gaps_in_more, items-push}
 use Rattle.gap_list.proofs.list.GapList.push.Goals as goal
 
@@ -13,6 +13,6 @@ invariant_of-self-2 g c =
 pub returns-clause-ok : goal.returns-clause-ok
 returns-clause-ok g c =
     let s = c.self.inside in
-    ap (items_without s.gaps) c.in_ok-push.ensures.items
+    ap (items_without_gaps s.gaps) c.in_ok-push.ensures.items
     ∙ items-push 0 s.gaps s.slots.items c.args.item c.self.invariant
     ∙ ap (λ l. l.listed ++ c.args.item ∷ []) c.self.view_is

@@ -1,5 +1,5 @@
 use Rattle.std.proofs.Common.{◌++◌, ◌∷◌, [], ap, ◌∙◌, arith, length, length-append}
-use Rattle.gap_list.specs.Gaps.{items_without}
+use Rattle.gap_list.specs.Gaps.{items_without_gaps}
 use Rattle.gap_list.proofs.SlotItems.{gaps_in_more, items-push}
 use Rattle.gap_list.proofs.list.GapList.put.Goals as goal
 
@@ -16,6 +16,6 @@ invariant_of-self g c =
 pub returns : goal.returns
 returns g c =
     let s = c.self.inside in
-    ap (items_without s.gaps) c.put_last.ensures
+    ap (items_without_gaps s.gaps) c.put_last.ensures
     ∙ items-push 0 s.gaps s.slots.items c.args.item c.self.invariant
     ∙ ap (λ l. l.listed ++ c.args.item ∷ []) c.self.view_is

@@ -1,5 +1,5 @@
 use Rattle.std.proofs.Common.{take, ap, ◌∙◌, arith, length}
-use Rattle.gap_list.proofs.SlotItems.{length-without}
+use Rattle.gap_list.proofs.SlotItems.{length-items_without_gaps}
 use Rattle.gap_list.proofs.Truncations.{gaps_truncated, items_truncated}
 use Rattle.gap_list.proofs.list.GapList.truncate.Goals as goal
 
@@ -25,7 +25,7 @@ returns-in_default g c =
       c.in_default.ensures.none,
       c.if-len.false,
       c.len.ensures,
-      length-without 0 c.self.inside.gaps c.self.inside.slots.items c.self.invariant,
+      length-items_without_gaps 0 c.self.inside.gaps c.self.inside.slots.items c.self.invariant,
       c.self.inside.slots.ok.0,
       c.self.inside.slots.ok.1,
       c.self.inside.slots.small,

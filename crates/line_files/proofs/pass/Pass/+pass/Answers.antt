@@ -1,12 +1,13 @@
 use Rattle.std.proofs.Common.{◌≡◌, ◌++◌, ◌-◌, ◌∙◌, ap, sym, subst, Ok, Err, OnOk, reverse}
-use Rattle.units_io.specs.FetchResults.{IsFetched}
+use Rattle.units_io.specs.FetchResults.{IsFileFetched}
 use Rattle.units_io.specs.declared.files.FetchFault.TheVariants.{Absent, TooLong}
 use Rattle.def_lines.specs.Lines.{nonblank_lines}
 use Rattle.deck_lines.specs.Includes.{included_by, included_name}
-use Rattle.deck_lines.specs.Readings.{reading_of}
-use Rattle.line_files.specs.FileLines.{file_names, lines_above, lines_below}
-use Rattle.line_files.proofs.Passing.{file_passed, include_passed, line_passed, line_taken, missing_below, none_below}
-use Rattle.line_files.proofs.Passing.{none_taken, read_below, told_of}
+use Rattle.deck_lines.specs.Readings.{store_line_reading_of}
+use Rattle.line_files.specs.FileLines.{file_lines_above, file_lines_below, line_file_names}
+use Rattle.line_files.proofs.Passing.{file_passed, line_files_of_passed_include, line_of_file_taken, line_passed}
+use Rattle.line_files.proofs.Passing.{missing_below, no_file_lines_below_depth}
+use Rattle.line_files.proofs.Passing.{fact_of_known_line_files, no_line_of_file_taken, read_below}
 use Rattle.line_files.proofs.pass.Pass.+pass.Goals as goal
 
 pub read_file-loop-blocks-preserved-in_ok-read_line : goal.read_file-loop-blocks-preserved-in_ok-read_line
@@ -14,10 +15,10 @@ read_file-loop-blocks-preserved-in_ok-read_line g t c = record {
   kept = c.in_ok-read_line.ensures.kept ∙ c.loop-blocks.invariant.kept;
   found = λ m h.
       line_passed (included_by m c.args.depth c.args.name.now)
-      (λ word. lines_below m c.args.depth (included_name c.args.name.now word)) c.args.name.now
+      (λ word. file_lines_below m c.args.depth (included_name c.args.name.now word)) c.args.name.now
       (reverse c.loop-blocks.blocks.items) (nonblank_lines c.loop-blocks.lines) (nonblank_lines c.take_shown.new.self)
       c.in-Some.line
-      (line_taken _ _ _ _ c.in_ok-line.ensures.ok c.in-Some.is)
+      (line_of_file_taken _ _ _ _ c.in_ok-line.ensures.ok c.in-Some.is)
       c.loop-blocks.self.found _ c.read_line.new.self.found (c.loop-blocks.invariant.found m h)
       (c.in_ok-read_line.ensures.found m (c.loop-blocks.invariant.kept ∙ h))
       (reverse c.read_line.new.blocks.items) c.in_ok-read_line.ensures.blocks;
@@ -29,10 +30,10 @@ read_file-loop-blocks-preserved g t c = record {
   kept = c.in_ok-read_line.ensures.kept ∙ c.loop-blocks.invariant.kept;
   found = λ m h.
       line_passed (included_by m c.args.depth c.args.name.now)
-      (λ word. lines_below m c.args.depth (included_name c.args.name.now word)) c.args.name.now
+      (λ word. file_lines_below m c.args.depth (included_name c.args.name.now word)) c.args.name.now
       (reverse c.loop-blocks.blocks.items) (nonblank_lines c.loop-blocks.lines) (nonblank_lines c.take_shown.new.self)
       c.in-Some.line
-      (line_taken _ _ _ _ c.in_ok-line.ensures.ok c.in-Some.is)
+      (line_of_file_taken _ _ _ _ c.in_ok-line.ensures.ok c.in-Some.is)
       c.loop-blocks.self.found _ c.read_line.new.self.found (c.loop-blocks.invariant.found m h)
       (c.in_ok-read_line.ensures.found m (c.loop-blocks.invariant.kept ∙ h))
       (reverse c.read_line.new.blocks.items) c.in_ok-read_line.ensures.blocks;
@@ -41,45 +42,45 @@ read_file-loop-blocks-preserved g t c = record {
 pub read_file-returns-clause-found : goal.read_file-returns-clause-found
 read_file-returns-clause-found g t c = λ m h.
     file_passed (included_by m c.args.depth c.args.name.now)
-    (λ word. lines_below m c.args.depth (included_name c.args.name.now word)) c.args.name.now
+    (λ word. file_lines_below m c.args.depth (included_name c.args.name.now word)) c.args.name.now
     (reverse c.loop-blocks.blocks.items) (nonblank_lines c.loop-blocks.lines) c.loop-blocks.self.found _
     c.read_missing_ends.new.self.found c.read_missing_ends.result
-    (none_taken _ _ _ c.in_ok-line.ensures.ok c.in_default.is) (c.loop-blocks.invariant.found m h)
+    (no_line_of_file_taken _ _ _ c.in_ok-line.ensures.ok c.in_default.is) (c.loop-blocks.invariant.found m h)
     c.read_missing_ends.ensures
 
 pub read_include-returns-then-depth-eq0-clause-found : goal.read_include-returns-then-depth-eq0-clause-found
 read_include-returns-then-depth-eq0-clause-found g t c = λ m h.
-    none_below m c.args.depth c.args.name.now c.if-depth-eq0.true c.args.self.now.found
+    no_file_lines_below_depth m c.args.depth c.args.name.now c.if-depth-eq0.true c.args.self.now.found
 
 pub read_include-returns-in-Ok-clause-found : goal.read_include-returns-in-Ok-clause-found
 read_include-returns-in-Ok-clause-found g t c = λ m h.
     subst (λ lines. OnOk c.read_file.result
-    (c.read_file.new.self.found ≡ c.args.self.now.found ++ file_names lines))
+    (c.read_file.new.self.found ≡ c.args.self.now.found ++ line_file_names lines))
     (sym (read_below m c.args.depth c.args.name.now c.if-depth-eq0.false c.in-Ok.text
-    (told_of _ (λ n. IsFetched n c.args.name.now (Ok c.in-Ok.text)) m h c.in-Ok.ensures.told)))
+    (fact_of_known_line_files _ (λ n. IsFileFetched n c.args.name.now (Ok c.in-Ok.text)) m h c.in-Ok.ensures.told)))
     (subst (λ bytes. OnOk c.read_file.result (c.read_file.new.self.found
-    ≡ c.args.self.now.found ++ file_names (lines_above m (c.args.depth - 1) c.args.name.now bytes)))
+    ≡ c.args.self.now.found ++ line_file_names (file_lines_above m (c.args.depth - 1) c.args.name.now bytes)))
     c.as_bytes.ensures (c.read_file.ensures.found m (c.fetch.ensures.kept ∙ h)))
 
 pub read_include-returns-in-Err-Absent-clause-found : goal.read_include-returns-in-Err-Absent-clause-found
 read_include-returns-in-Err-Absent-clause-found g t c = λ m h.
     missing_below m c.args.depth c.args.name.now c.if-depth-eq0.false Absent
-    (told_of _ (λ n. IsFetched n c.args.name.now (Err Absent)) m h
+    (fact_of_known_line_files _ (λ n. IsFileFetched n c.args.name.now (Err Absent)) m h
     (rw c.in-Err-Absent.field-0-is at c.in-Err-Absent.ensures.told))
     c.args.self.now.found
 
 pub read_include-returns-in-Err-TooLong-clause-found : goal.read_include-returns-in-Err-TooLong-clause-found
 read_include-returns-in-Err-TooLong-clause-found g t c = λ m h.
     missing_below m c.args.depth c.args.name.now c.if-depth-eq0.false TooLong
-    (told_of _ (λ n. IsFetched n c.args.name.now (Err TooLong)) m h
+    (fact_of_known_line_files _ (λ n. IsFileFetched n c.args.name.now (Err TooLong)) m h
     (rw c.in-Err-TooLong.field-0-is at c.in-Err-TooLong.ensures.told))
     c.args.self.now.found
 
 pub read_line-returns-in_ok-name-in-Includes-clause-found : goal.read_line-returns-in_ok-name-in-Includes-clause-found
 read_line-returns-in_ok-name-in-Includes-clause-found g t c = λ m h.
-    include_passed c.read_include.result m c.args.file.depth c.args.file.name.now c.as_bytes.result.now
+    line_files_of_passed_include c.read_include.result m c.args.file.depth c.args.file.name.now c.as_bytes.result.now
     c.in-Includes.word.now
     c.args.line.now (reverse c.args.blocks.now.items) c.args.self.now.found c.push.new.self.found
     c.read_include.new.self.found
-    (ap reading_of (sym c.text-2.ensures) ∙ c.in-Includes.ensures) c.in_ok-push.ensures
+    (ap store_line_reading_of (sym c.text-2.ensures) ∙ c.in-Includes.ensures) c.in_ok-push.ensures
     (c.as_bytes.ensures ∙ c.in_ok-name-in-Includes.ensures) (c.read_include.ensures.found m h)

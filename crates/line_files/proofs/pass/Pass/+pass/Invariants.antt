@@ -2,7 +2,7 @@ use Rattle.std.proofs.Common.{◌≡◌, ◌*◌, ◌+◌, ◌++◌, Some, lengt
 use Rattle.units_io.specs.FileMap.{FileMap}
 use Rattle.def_lines.specs.Lines.{nonblank_lines}
 use Rattle.deck_lines.specs.Includes.{included_by, included_name}
-use Rattle.line_files.specs.FileLines.{file_names, lines_above, lines_below, rest_lines}
+use Rattle.line_files.specs.FileLines.{file_lines_above, file_lines_below, line_file_names, rest_lines}
 use Rattle.line_files.proofs.pass.Pass.+pass.Given as goal
 
 abbrev pub decreases-read_file : goal.decreases-read_file
@@ -18,10 +18,10 @@ abbrev pub invariant-read_file-loop-blocks : goal.invariant-read_file-loop-block
 invariant-read_file-loop-blocks g l = record {
   kept : g.F.Files.files l.files ≡ g.F.Files.files l.initial.files;
   found : (m : FileMap) → g.F.Files.files l.initial.files ≡ Some m →
-      l.self.found ++ file_names (rest_lines (included_by m l.depth l.name)
-      (λ word. lines_below m l.depth (included_name l.name word)) l.name (reverse l.blocks.items)
+      l.self.found ++ line_file_names (rest_lines (included_by m l.depth l.name)
+      (λ word. file_lines_below m l.depth (included_name l.name word)) l.name (reverse l.blocks.items)
       (nonblank_lines l.lines))
-      ≡ l.initial.self.found ++ file_names (lines_above m l.depth l.name l.bytes);
+      ≡ l.initial.self.found ++ line_file_names (file_lines_above m l.depth l.name l.bytes);
 }
 
 abbrev pub decreases-read_file-loop-blocks : goal.decreases-read_file-loop-blocks

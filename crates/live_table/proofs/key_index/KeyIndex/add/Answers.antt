@@ -3,7 +3,7 @@ use Rattle.std.specs.Prelude.{IfOk, OnErr}
 use Rattle.std.specs.List.{slice_get}
 use Rattle.def_entry.specs.Keys.{key}
 use Rattle.def_entry.specs.declared.key.Key.{Key}
-use Rattle.live_table.specs.KeyIndex.{IsAdded}
+use Rattle.live_table.specs.KeyIndex.{IsNodeKeyAdded}
 use Rattle.live_table.proofs.key_index.KeyIndex.add.Goals as goal
 
 pub returns-in-Some-clause-ok : goal.returns-in-Some-clause-ok
@@ -16,7 +16,7 @@ returns-in-Some-clause-ok c = record {
 
 pub returns-clause-ok : goal.returns-clause-ok
 returns-clause-ok c =
-    subst (λ (keys : List Key). IfOk c.insert.result (λ added. IsAdded (key c.args.kind c.args.name.now) keys
+    subst (λ (keys : List Key). IfOk c.insert.result (λ added. IsNodeKeyAdded (key c.args.kind c.args.name.now) keys
     c.insert.new.self added.number added.is_new)) c.number_of_long.ensures.kept c.insert.ensures.ok
 
 pub returns-clause-err : goal.returns-clause-err

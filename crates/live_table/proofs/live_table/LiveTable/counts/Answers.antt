@@ -1,10 +1,10 @@
 use Rattle.std.proofs.Common.{◌≤◌, ◌+◌, length, ◌∙◌, ap, arith}
 use Rattle.std.specs.FinMap as map_of
-use Rattle.deck.specs.Tables.{table}
-use Rattle.live_table.specs.Calls.{present_names}
-use Rattle.live_table.specs.TableView.{Shown}
+use Rattle.deck.specs.Tables.{table_of_deck}
+use Rattle.live_table.specs.Calls.{all_settleable_names}
+use Rattle.live_table.specs.TableView.{LiveView}
 use Rattle.live_table.specs.TableContents.{node_lists}
-use Rattle.live_table.proofs.NameCounts.{kept_counted, names_counted, names_within}
+use Rattle.live_table.proofs.NameCounts.{names_counted, names_within, settled_count_is_cached_count}
 use Rattle.live_table.proofs.live_table.LiveTable.counts.Goals as goal
 
 pub overflow_add-result : goal.overflow_add-result
@@ -36,8 +36,9 @@ overflow_add-result-2 c =
 pub returns-clause-settled : goal.returns-clause-settled
 returns-clause-settled c =
     c.self.invariant.0.is_sound.numbers.count_right
-    ∙ (kept_counted (table c.self.inside.deck) (node_lists c.self.inside.nodes) c.self.invariant.0.is_sound.numbers
-    ∙ ap (λ (s : Shown). map_of.len s.kept_outcomes) c.self.view_is)
+    ∙ (settled_count_is_cached_count (table_of_deck c.self.inside.deck) (node_lists c.self.inside.nodes)
+    c.self.invariant.0.is_sound.numbers
+    ∙ ap (λ (s : LiveView). map_of.len s.kept_outcomes) c.self.view_is)
 
 pub returns-clause-names : goal.returns-clause-names
 returns-clause-names c =
@@ -48,4 +49,4 @@ returns-clause-names c =
       functions =
           c.key_count-functions.ensures;
     })
-    ∙ ap (λ (s : Shown). length (present_names (table s.deck))) c.self.view_is
+    ∙ ap (λ (s : LiveView). length (all_settleable_names (table_of_deck s.deck))) c.self.view_is

@@ -1,22 +1,26 @@
 use Rattle.std.proofs.Common.{◌≡◌, subst}
-use Rattle.def_lines.specs.Blanks.{trim_of}
+use Rattle.def_lines.specs.Blanks.{trimmed_of_blanks}
 use Rattle.deck.specs.Edits as deck_edit
-use Rattle.deck.specs.LineRemoval.{place_of_key}
-use Rattle.live_table.specs.TableView.{Shown}
-use Rattle.live_table.specs.TableContents.{node_lists, shown_table}
-use Rattle.live_table.proofs.NodeEdits.{live_as, live_can, same_edit, same_outcome}
+use Rattle.deck.specs.LineRemoval.{deck_place_of_defined_key}
+use Rattle.live_table.specs.TableView.{LiveView}
+use Rattle.live_table.specs.TableContents.{live_view_of_nodes, node_lists}
+use Rattle.live_table.proofs.NodeEdits.{live_edit_has_deck_outcome, live_table_can_forget, live_table_with_other_edges}
+use Rattle.live_table.proofs.NodeEdits.{live_view_is_edited}
 use Rattle.live_table.proofs.live_table.LiveTable.define_shadowing.Goals as goal
 
 pub forget_changed-requires-clause-can : goal.forget_changed-requires-clause-can
 forget_changed-requires-clause-can c =
-    live_can c.self.inside.deck (node_lists c.self.inside.nodes) c.link_waiting.new.edges c.self.inside.reductions
-    (live_as c.self.inside.deck (node_lists c.self.inside.nodes) c.self.inside.edges c.link_waiting.new.edges
+    live_table_can_forget c.self.inside.deck (node_lists c.self.inside.nodes) c.link_waiting.new.edges
+    c.self.inside.reductions
+    (live_table_with_other_edges c.self.inside.deck (node_lists c.self.inside.nodes) c.self.inside.edges
+    c.link_waiting.new.edges
     c.self.inside.reductions c.self.invariant.0 c.link_waiting.ensures.edges)
 
 pub invariant_of-self-2 : goal.invariant_of-self-2
 invariant_of-self-2 c = (
   c.forget_changed.ensures.live c.self.inside.deck c.self.inside.reductions
-      (live_as c.self.inside.deck (node_lists c.self.inside.nodes) c.self.inside.edges c.link_waiting.new.edges
+      (live_table_with_other_edges c.self.inside.deck (node_lists c.self.inside.nodes) c.self.inside.edges
+      c.link_waiting.new.edges
       c.self.inside.reductions c.self.invariant.0 c.link_waiting.ensures.edges)
       c.in_ok-keys.ensures.1,
   (c.forget_changed.ensures.explored, c.forget_changed.ensures.faults),
@@ -24,16 +28,19 @@ invariant_of-self-2 c = (
 
 pub returns : goal.returns
 returns c = (
-  same_outcome (λ d. deck_edit.after_define (trim_of c.args.line.now) d) c.self.inside.deck c.define_shadowing.new.self
+  live_edit_has_deck_outcome (λ d. deck_edit.deck_after_defining (trimmed_of_blanks c.args.line.now) d)
+      c.self.inside.deck c.define_shadowing.new.self
       (node_lists c.self.inside.nodes)
       c.self.inside.reductions c.args.self.now c.self.view_is c.in_ok-keys.ensures.0,
-  same_edit c.args.self.now
-      (shown_table c.define_shadowing.new.self (node_lists c.forget_changed.new.nodes) c.self.inside.reductions)
+  live_view_is_edited c.args.self.now
+      (live_view_of_nodes c.define_shadowing.new.self (node_lists c.forget_changed.new.nodes) c.self.inside.reductions)
       c.self.inside.deck (node_lists c.self.inside.nodes) c.self.inside.reductions c.self.view_is
       (c.forget_changed.ensures.edit c.self.inside.deck c.self.inside.reductions
-      (live_as c.self.inside.deck (node_lists c.self.inside.nodes) c.self.inside.edges c.link_waiting.new.edges
+      (live_table_with_other_edges c.self.inside.deck (node_lists c.self.inside.nodes) c.self.inside.edges
+      c.link_waiting.new.edges
       c.self.inside.reductions c.self.invariant.0 c.link_waiting.ensures.edges)
       c.in_ok-keys.ensures.1),
-  subst (λ (s : Shown). c.in_ok-keys.covered ≡ place_of_key (trim_of c.args.line.now) s.deck) c.self.view_is
+  subst (λ (s : LiveView). c.in_ok-keys.covered ≡ deck_place_of_defined_key (trimmed_of_blanks c.args.line.now) s.deck)
+      c.self.view_is
       c.in_ok-keys.ensures.2,
 )

@@ -1,20 +1,23 @@
 use Rattle.std.proofs.Common.{◌≡◌, subst}
-use Rattle.deck.specs.LineRemoval.{IsLastText, without_last}
-use Rattle.live_table.specs.TableView.{Shown}
-use Rattle.live_table.specs.TableContents.{node_lists, shown_table}
-use Rattle.live_table.proofs.NodeEdits.{live_as, live_can, same_edit}
+use Rattle.deck.specs.LineRemoval.{IsTextOfLastDeckLine, deck_without_last_line}
+use Rattle.live_table.specs.TableView.{LiveView}
+use Rattle.live_table.specs.TableContents.{live_view_of_nodes, node_lists}
+use Rattle.live_table.proofs.NodeEdits.{live_table_can_forget, live_table_with_other_edges, live_view_is_edited}
 use Rattle.live_table.proofs.live_table.LiveTable.undefine.Goals as goal
 
 pub forget_changed-requires-clause-can : goal.forget_changed-requires-clause-can
 forget_changed-requires-clause-can c =
-    live_can c.self.inside.deck (node_lists c.self.inside.nodes) c.link_waiting.new.edges c.self.inside.reductions
-    (live_as c.self.inside.deck (node_lists c.self.inside.nodes) c.self.inside.edges c.link_waiting.new.edges
+    live_table_can_forget c.self.inside.deck (node_lists c.self.inside.nodes) c.link_waiting.new.edges
+    c.self.inside.reductions
+    (live_table_with_other_edges c.self.inside.deck (node_lists c.self.inside.nodes) c.self.inside.edges
+    c.link_waiting.new.edges
     c.self.inside.reductions c.self.invariant.0 c.link_waiting.ensures.edges)
 
 pub invariant_of-self-2 : goal.invariant_of-self-2
 invariant_of-self-2 c = (
   c.forget_changed.ensures.live c.self.inside.deck c.self.inside.reductions
-      (live_as c.self.inside.deck (node_lists c.self.inside.nodes) c.self.inside.edges c.link_waiting.new.edges
+      (live_table_with_other_edges c.self.inside.deck (node_lists c.self.inside.nodes) c.self.inside.edges
+      c.link_waiting.new.edges
       c.self.inside.reductions c.self.invariant.0 c.link_waiting.ensures.edges)
       c.in_ok-keys.ensures.ok.1,
   (c.forget_changed.ensures.explored, c.forget_changed.ensures.faults),
@@ -22,13 +25,15 @@ invariant_of-self-2 c = (
 
 pub returns : goal.returns
 returns c = (
-  subst (λ (s : Shown). c.undefine.new.self ≡ without_last s.deck) c.self.view_is c.in_ok-keys.ensures.ok.0,
-  subst (λ (s : Shown). IsLastText c.in_ok-keys.text s.deck) c.self.view_is c.in_ok-keys.ensures.ok.2,
-  same_edit c.args.self.now
-      (shown_table c.undefine.new.self (node_lists c.forget_changed.new.nodes) c.self.inside.reductions)
+  subst (λ (s : LiveView). c.undefine.new.self ≡ deck_without_last_line s.deck) c.self.view_is
+      c.in_ok-keys.ensures.ok.0,
+  subst (λ (s : LiveView). IsTextOfLastDeckLine c.in_ok-keys.text s.deck) c.self.view_is c.in_ok-keys.ensures.ok.2,
+  live_view_is_edited c.args.self.now
+      (live_view_of_nodes c.undefine.new.self (node_lists c.forget_changed.new.nodes) c.self.inside.reductions)
       c.self.inside.deck (node_lists c.self.inside.nodes) c.self.inside.reductions c.self.view_is
       (c.forget_changed.ensures.edit c.self.inside.deck c.self.inside.reductions
-      (live_as c.self.inside.deck (node_lists c.self.inside.nodes) c.self.inside.edges c.link_waiting.new.edges
+      (live_table_with_other_edges c.self.inside.deck (node_lists c.self.inside.nodes) c.self.inside.edges
+      c.link_waiting.new.edges
       c.self.inside.reductions c.self.invariant.0 c.link_waiting.ensures.edges)
       c.in_ok-keys.ensures.ok.1),
 )

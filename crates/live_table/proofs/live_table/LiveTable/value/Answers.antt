@@ -4,8 +4,8 @@ use Rattle.expr_tree.specs.declared.word_list.WordUse.{WordUse}
 use Rattle.expr_tree.specs.Trees.{syntax}
 use Rattle.expr_tree.specs.Words.{words_in}
 use Rattle.name_walk.specs.declared.step.Step.{Step}
-use Rattle.deck.specs.Decks.{Contents}
-use Rattle.deck.specs.Tables.{table}
+use Rattle.deck.specs.Decks.{DeckContents}
+use Rattle.deck.specs.Tables.{table_of_deck}
 use Rattle.tree_eval.specs.Value.{value}
 use Rattle.table_names.specs.Faults.{name_fault}
 use Rattle.table_names.specs.Meanings.{expansion}
@@ -13,16 +13,16 @@ use Rattle.table_names.specs.Reach.{reach}
 use Rattle.live_table.specs.declared.fault.QueryFault.{QueryFault}
 use Rattle.live_table.specs.declared.stop.Stop.{Stop}
 use Rattle.live_table.specs.Answers as spec
-use Rattle.live_table.specs.QueryEffects.{IsAsked}
-use Rattle.live_table.specs.Calls.{IsQuery}
-use Rattle.live_table.specs.TableView.{IsAfterEvents, IsRightTable, Shown}
+use Rattle.live_table.specs.QueryEffects.{IsLiveQueryEffect}
+use Rattle.live_table.specs.Calls.{IsLiveQuery}
+use Rattle.live_table.specs.TableView.{IsAfterLiveEvents, IsRightLiveView, LiveView}
 use Rattle.live_table.specs.States.{AsksWords}
-use Rattle.live_table.specs.Stops.{IsStopFault}
-use Rattle.live_table.specs.TableContents.{node_lists, shown_table}
+use Rattle.live_table.specs.Stops.{IsLiveStopFault}
+use Rattle.live_table.specs.TableContents.{live_view_of_nodes, node_lists}
 use Rattle.live_table.specs.EvalInvariants.{AreSettledWords}
-use Rattle.live_table.proofs.QueryAnswers.{worth_answer}
-use Rattle.live_table.proofs.QuerySequence.{query_answer}
-use Rattle.live_table.proofs.GrownLive.{words_query}
+use Rattle.live_table.proofs.QueryAnswers.{live_answer_without_name_fault}
+use Rattle.live_table.proofs.QuerySequence.{whole_event_is_live_query}
+use Rattle.live_table.proofs.GrownLive.{live_query_of_words}
 use Rattle.live_table.proofs.Queries.{cut_off}
 use Rattle.live_table.proofs.StopAnswers.{answered_err, answered_ok, named_answer, named_query}
 use Rattle.live_table.proofs.live_table.LiveTable.value.Goals as goal
@@ -32,38 +32,40 @@ pub returns-in_err-words-clause-after : goal.returns-in_err-words-clause-after
 returns-in_err-words-clause-after g c =
     let p = err_from_is_err_and c.from_residual.result c.from_residual.ensures.1 in
     let us = words_in (syntax c.args.tree.now) in
-    let t = table c.args.self.now.deck in
-    subst (λ r. IsQuery (AsksWords us) r c.args.self.now c.args.self.now c.args.steps.now c.args.steps.now)
+    let t = table_of_deck c.args.self.now.deck in
+    subst (λ r. IsLiveQuery (AsksWords us) r c.args.self.now c.args.self.now c.args.steps.now c.args.steps.now)
     (sym (p.1 ∙ ap Err p.2))
     (cut_off (AsksWords us) (name_fault t us) (reach t us) c.args.self.now c.args.steps.now
-    (subst IsRightTable c.self.view_is c.self.invariant.0.is_sound.is_right) (words_query t us))
+    (subst IsRightLiveView c.self.view_is c.self.invariant.0.is_sound.is_right) (live_query_of_words t us))
 
 -- ---- the names were queried
 abbrev us : (g : _) → After-ask_words-query g → List WordUse
 us g c = c.in_ok-words.words
 
-abbrev before : (g : _) → After-ask_words-query g → Shown
-before g c = shown_table c.self.inside.deck (node_lists c.self.inside.nodes) c.self.inside.reductions
+abbrev before : (g : _) → After-ask_words-query g → LiveView
+before g c = live_view_of_nodes c.self.inside.deck (node_lists c.self.inside.nodes) c.self.inside.reductions
 
-abbrev now : (g : _) → After-ask_words-query g → Shown
-now g c = shown_table c.self.inside.deck (node_lists c.ask_words-query.new.nodes) c.ask_words-query.new.reductions
+abbrev now : (g : _) → After-ask_words-query g → LiveView
+now g c = live_view_of_nodes c.self.inside.deck (node_lists c.ask_words-query.new.nodes)
+    c.ask_words-query.new.reductions
 
 abbrev AreGiven : (g : _) → After-ask_words-query g → List Step → Type 0
-AreGiven g c query = AreSettledWords (table c.self.inside.deck) (node_lists c.ask_words-query.new.nodes)
+AreGiven g c query = AreSettledWords (table_of_deck c.self.inside.deck) (node_lists c.ask_words-query.new.nodes)
     (us g c) query
 
 abbrev Holds : (g : _) → After-ask_words-query g → Result (List Step) QueryFault → Type 0
 Holds g c answer =
-    IsAsked (AsksWords (us g c)) (name_fault (table c.self.inside.deck) (us g c)) (AreGiven g c) answer (before g c)
+    IsLiveQueryEffect (AsksWords (us g c)) (name_fault (table_of_deck c.self.inside.deck) (us g c))
+    (AreGiven g c) answer (before g c)
     (now g c) c.args.steps.now c.ask_words-query.new.steps
 
 -- ---- the names have a fault
 stopped : (g : _) (c : After-ask_words-query g) (stop : Stop) → c.ask_words-query.result ≡ Err stop
-    → (q : QueryFault) × IsStopFault (table c.self.inside.deck) (node_lists c.ask_words-query.new.nodes)
+    → (q : QueryFault) × IsLiveStopFault (table_of_deck c.self.inside.deck) (node_lists c.ask_words-query.new.nodes)
     c.ask_words-query.new.explored.dead_ends.items c.ask_words-query.new.explored.findings.faults stop q × Holds g c
     (Err q)
 stopped g c stop is =
-    answered_err (table c.self.inside.deck) (node_lists c.ask_words-query.new.nodes)
+    answered_err (table_of_deck c.self.inside.deck) (node_lists c.ask_words-query.new.nodes)
     c.ask_words-query.new.explored.dead_ends.items c.ask_words-query.new.explored.findings.faults
     (Holds g c) c.ask_words-query.result stop is c.ask_words-query.ensures.asked
 
@@ -80,12 +82,14 @@ returns-clause-answer g c =
     let at = goal.at.returns-clause-answer g c in
     let s = stopped g at.After-ask_words-query c.in-Err.stop c.in-Err.is in
     let a = at.After-ask_words-query in
-    subst (λ (x : List WordUse × Contents). spec.IsQueryResult (Err c.fault_of_stop.result)
-    (spec.by_names (name_fault (table x.1) x.0) (value (expansion (table x.1) (syntax c.args.tree.now)) None)))
+    subst (λ (x : List WordUse × DeckContents). spec.IsLiveQueryResult (Err c.fault_of_stop.result)
+    (spec.live_answer_of_worth (name_fault (table_of_deck x.1) x.0)
+    (value (expansion (table_of_deck x.1) (syntax c.args.tree.now)) None)))
     (λ i. (c.in_ok-words.ensures i, (c.self.view_is i).deck))
-    (named_answer (AsksWords (us g a)) (name_fault (table c.self.inside.deck) (us g a)) (AreGiven g a) (before g a)
+    (named_answer (AsksWords (us g a)) (name_fault (table_of_deck c.self.inside.deck) (us g a)) (AreGiven g a)
+    (before g a)
     (now g a) c.args.steps.now c.ask_words-query.new.steps s.0 s.2
-    (value (expansion (table c.self.inside.deck) (syntax c.args.tree.now)) None) c.fault_of_stop.result
+    (value (expansion (table_of_deck c.self.inside.deck) (syntax c.args.tree.now)) None) c.fault_of_stop.result
     (c.fault_of_stop.ensures s.0 s.1))
 
 pub returns-clause-after : goal.returns-clause-after
@@ -93,10 +97,11 @@ returns-clause-after g c =
     let at = goal.at.returns-clause-after g c in
     let s = stopped g at.After-ask_words-query c.in-Err.stop c.in-Err.is in
     let a = at.After-ask_words-query in
-    subst (λ (x : List WordUse × Shown). IsQuery (AsksWords x.0) (Err c.fault_of_stop.result) x.1 (now g a)
+    subst (λ (x : List WordUse × LiveView). IsLiveQuery (AsksWords x.0) (Err c.fault_of_stop.result) x.1 (now g a)
     c.args.steps.now c.ask_words-query.new.steps)
     (λ i. (c.in_ok-words.ensures i, c.self.view_is i))
-    (named_query (AsksWords (us g a)) (name_fault (table c.self.inside.deck) (us g a)) (AreGiven g a) (before g a)
+    (named_query (AsksWords (us g a)) (name_fault (table_of_deck c.self.inside.deck) (us g a)) (AreGiven g a)
+    (before g a)
     (now g a) c.args.steps.now c.ask_words-query.new.steps s.0 s.2 refl c.fault_of_stop.result
     (c.fault_of_stop.ensures s.0 s.1))
 
@@ -104,7 +109,7 @@ returns-clause-after g c =
 asked : (g : _) (c : After-ask_words-query g) (query : List Step) → c.ask_words-query.result ≡ Ok query
     → Holds g c (Ok query)
 asked g c query is =
-    answered_ok (table c.self.inside.deck) (node_lists c.ask_words-query.new.nodes)
+    answered_ok (table_of_deck c.self.inside.deck) (node_lists c.ask_words-query.new.nodes)
     c.ask_words-query.new.explored.dead_ends.items c.ask_words-query.new.explored.findings.faults
     (Holds g c) c.ask_words-query.result query is c.ask_words-query.ensures.asked
 
@@ -114,29 +119,31 @@ evaluate_tree-requires-clause-sound g c =
 
 pub evaluate_tree-requires-clause-settled : goal.evaluate_tree-requires-clause-settled
 evaluate_tree-requires-clause-settled g c =
-    subst (AreSettledWords (table c.self.inside.deck) (node_lists c.ask_words-query.new.nodes) c.in_ok-words.words)
+    subst (AreSettledWords (table_of_deck c.self.inside.deck) (node_lists c.ask_words-query.new.nodes)
+    c.in_ok-words.words)
     (sym c.as_slice.ensures)
     (asked g (goal.at.evaluate_tree-requires-clause-settled g c).After-ask_words-query c.in-Ok.query c.in-Ok.is).1
 
 pub returns-in-Ok-clause-answer : goal.returns-in-Ok-clause-answer
 returns-in-Ok-clause-answer g c =
-    subst (λ (x : List WordUse × Contents). spec.IsQueryResult c.evaluate_tree.result
-    (spec.by_names (name_fault (table x.1) x.0) (value (expansion (table x.1) (syntax c.args.tree.now)) None)))
+    subst (λ (x : List WordUse × DeckContents). spec.IsLiveQueryResult c.evaluate_tree.result
+    (spec.live_answer_of_worth (name_fault (table_of_deck x.1) x.0)
+    (value (expansion (table_of_deck x.1) (syntax c.args.tree.now)) None)))
     (λ i. (c.in_ok-words.ensures i, (c.self.view_is i).deck))
-    (worth_answer (name_fault (table c.self.inside.deck) c.in_ok-words.words)
-    (value (expansion (table c.self.inside.deck) (syntax c.args.tree.now)) None) c.evaluate_tree.result
+    (live_answer_without_name_fault (name_fault (table_of_deck c.self.inside.deck) c.in_ok-words.words)
+    (value (expansion (table_of_deck c.self.inside.deck) (syntax c.args.tree.now)) None) c.evaluate_tree.result
     (asked g (goal.at.returns-in-Ok-clause-answer g c).After-ask_words-query c.in-Ok.query c.in-Ok.is).0
     c.evaluate_tree.ensures)
 
 pub returns-in-Ok-clause-after : goal.returns-in-Ok-clause-after
 returns-in-Ok-clause-after g c =
-    query_answer (AsksWords (words_in (syntax c.args.tree.now))) c.evaluate_tree.result c.args.self.now
-    (shown_table c.self.inside.deck (node_lists c.ask_words-query.new.nodes) c.ask_words-query.new.reductions)
+    whole_event_is_live_query (AsksWords (words_in (syntax c.args.tree.now))) c.evaluate_tree.result c.args.self.now
+    (live_view_of_nodes c.self.inside.deck (node_lists c.ask_words-query.new.nodes) c.ask_words-query.new.reductions)
     c.args.steps.now
     c.ask_words-query.new.steps
-    (ap (λ (s : Shown). s.deck) c.self.view_is)
-    (subst (λ (x : List WordUse × Shown). IsAfterEvents (AsksWords x.0 ∷ []) x.1
-    (shown_table c.self.inside.deck (node_lists c.ask_words-query.new.nodes) c.ask_words-query.new.reductions)
+    (ap (λ (s : LiveView). s.deck) c.self.view_is)
+    (subst (λ (x : List WordUse × LiveView). IsAfterLiveEvents (AsksWords x.0 ∷ []) x.1
+    (live_view_of_nodes c.self.inside.deck (node_lists c.ask_words-query.new.nodes) c.ask_words-query.new.reductions)
     c.args.steps.now
     c.ask_words-query.new.steps)
     (λ i. (c.in_ok-words.ensures i, c.self.view_is i))

@@ -1,6 +1,6 @@
 use Rattle.std.proofs.Common.{◌≡◌, ◌++◌, ◌∷◌, [], List, refl, ◌∙◌, inr}
 use Rattle.def_entry.specs.Keys.{key}
-use Rattle.live_table.proofs.IndexKeys.{one_more}
+use Rattle.live_table.proofs.IndexKeys.{new_node_key_is_appended}
 use Rattle.live_table.proofs.nodes.Nodes.add.Goals as goal
 
 -- one more item is appended to a list with room for it
@@ -11,7 +11,8 @@ behind old room new x y put kept is = put ∙ (λ i. kept i ++ is i ∷ [])
 pub returns-clause-ok : goal.returns-clause-ok
 returns-clause-ok g c =
     let old = c.args.self.now in
-    let keys = one_more (key c.args.kind c.args.name.now) old.keys c.add.new.self c.in_ok-added.added.number
+    let keys = new_node_key_is_appended (key c.args.kind c.args.name.now) old.keys c.add.new.self
+    c.in_ok-added.added.number
     c.in_ok-added.added.is_new c.in_ok-added.ensures.ok c.if-not-added.false in
     record {
       number = c.in_ok-added.ensures.ok.number;

@@ -1,15 +1,16 @@
 use Rattle.std.proofs.Common.{◌++◌, ◌∷◌, [], List, ℕ, set, sym, ◌∙◌, ap, subst, arith}
 use Rattle.std.proofs.lemmas.Bool.{cond-false}
 use Rattle.name_walk.specs.Faults.{is_on_path}
-use Rattle.live_table.specs.Agendas.{IsPlaced}
-use Rattle.live_table.proofs.AgendaPlaces.{placed_put, placed_same}
+use Rattle.live_table.specs.Agendas.{AreAgendaPlaces}
+use Rattle.live_table.proofs.AgendaPlaces.{agenda_places_after_push, same_agenda_places_same_numbers}
 use Rattle.live_table.proofs.worklist.Worklist.put.Goals as goal
 use Rattle.live_table.proofs.worklist.Worklist.put.Goals.{After-cover}
 
 -- with more room the places are the same
-placed : (c : After-cover) → IsPlaced c.cover.new.places.items c.self.inside.numbers.items
+placed : (c : After-cover) → AreAgendaPlaces c.cover.new.places.items c.self.inside.numbers.items
 placed c =
-    placed_same c.self.inside.places.items c.cover.new.places.items c.self.inside.numbers.items c.cover.ensures.same
+    same_agenda_places_same_numbers c.self.inside.places.items c.cover.new.places.items c.self.inside.numbers.items
+    c.cover.ensures.same
     c.self.invariant
 
 pub invariant_of-self : goal.invariant_of-self
@@ -20,14 +21,14 @@ invariant_of-self-in_err-kept c = placed (goal.at.invariant_of-self-in_err-kept 
 
 pub invariant_of-self-in_err-push : goal.invariant_of-self-in_err-push
 invariant_of-self-in_err-push c =
-    subst (IsPlaced c.cover.new.places.items) (sym c.in_err-push.ensures.items)
+    subst (AreAgendaPlaces c.cover.new.places.items) (sym c.in_err-push.ensures.items)
     (placed (goal.at.invariant_of-self-in_err-push c).After-cover)
 
 pub invariant_of-self-2 : goal.invariant_of-self-2
 invariant_of-self-2 c =
-    subst (λ (ns : List ℕ). IsPlaced (set c.cover.new.places.items c.args.n c.in_ok-kept.kept) ns)
+    subst (λ (ns : List ℕ). AreAgendaPlaces (set c.cover.new.places.items c.args.n c.in_ok-kept.kept) ns)
     (sym c.in_ok-push.ensures.items)
-    (placed_put c.cover.new.places.items c.self.inside.numbers.items c.args.n c.in_ok-kept.kept
+    (agenda_places_after_push c.cover.new.places.items c.self.inside.numbers.items c.args.n c.in_ok-kept.kept
     (let e = c.len.ensures in let k = c.in_ok-kept.ensures in omega (arith, e, k)) c.in_ok-cover.ensures.ok
     (ap (λ (ns : List ℕ). is_on_path ns c.args.n) c.self.view_is ∙ (sym c.has.ensures ∙ c.if-has.false))
     (placed (goal.at.invariant_of-self-2 c).After-cover))

@@ -1,15 +1,16 @@
 use Rattle.std.proofs.Common.{◌/◌, ◌%◌, ◌∙◌, subst, nat_eq, refl}
 use Rattle.std.specs.Prelude.{◌&&◌}
 use Rattle.edge_links.specs.Reach.{AreMarksCleared}
-use Rattle.name_edges.specs.AffectedNames.{ForgetsNames, IsAffectedName}
-use Rattle.name_edges.specs.NameGraphs.{NameGraph}
-use Rattle.name_edges.specs.Nodes.{name_graph}
-use Rattle.name_edges.proofs.Nodes.{cleared, forgotten, marked_at}
+use Rattle.name_edges.specs.AffectedNames.{ForgetsNameEdges, IsAffectedByEdges}
+use Rattle.name_edges.specs.NameGraphs.{NameEdgeGraph}
+use Rattle.name_edges.specs.Nodes.{name_edge_graph}
+use Rattle.name_edges.proofs.Nodes.{cleared, edge_node_mark_is_of_name, forgotten}
 use Rattle.name_edges.proofs.name_edges.NameEdges.forget.Goals as goal
 
 pub returns-clause-edges : goal.returns-clause-edges
 returns-clause-edges g c =
-    subst (λ (x : NameGraph). ForgetsNames (IsAffectedName x c.args.key) x (name_graph c.unsettle-2.new.self))
+    subst (λ (x : NameEdgeGraph). ForgetsNameEdges (IsAffectedByEdges x c.args.key) x
+    (name_edge_graph c.unsettle-2.new.self))
     c.self.view_is
     (forgotten c.self.inside.links c.self.invariant c.args.key c.unsettle.new.self.edges c.unsettle-2.new.self.edges
     c.unsettle.ensures.edges c.unsettle-2.ensures.edges c.unsettle-2.new.self
@@ -17,7 +18,7 @@ returns-clause-edges g c =
 
 pub returns-clause-marks : goal.returns-clause-marks
 returns-clause-marks g c =
-    subst (λ (x : NameGraph). AreMarksCleared (IsAffectedName x c.args.key) (g.K.Marks.is_marked c.args.names)
+    subst (λ (x : NameEdgeGraph). AreMarksCleared (IsAffectedByEdges x c.args.key) (g.K.Marks.is_marked c.args.names)
     (g.K.Marks.is_marked c.unsettle-2.new.marks.names)) c.self.view_is
     (cleared c.self.inside.links c.self.invariant c.args.key c.unsettle.new.self.edges c.unsettle-2.new.self.edges
     c.unsettle.ensures.edges c.unsettle-2.ensures.edges
@@ -25,5 +26,6 @@ returns-clause-marks g c =
     (λ node. nat_eq (node % 2) 0 && g.K.Marks.is_marked c.unsettle.new.marks.names (node / 2))
     (λ node. nat_eq (node % 2) 0 && g.K.Marks.is_marked c.unsettle-2.new.marks.names (node / 2))
     (g.K.Marks.is_marked c.args.names) (g.K.Marks.is_marked c.unsettle-2.new.marks.names)
-    (marked_at (g.K.Marks.is_marked c.args.names)) (marked_at (g.K.Marks.is_marked c.unsettle-2.new.marks.names))
+    (edge_node_mark_is_of_name (g.K.Marks.is_marked c.args.names))
+    (edge_node_mark_is_of_name (g.K.Marks.is_marked c.unsettle-2.new.marks.names))
     c.unsettle.ensures.marks c.unsettle-2.ensures.marks)

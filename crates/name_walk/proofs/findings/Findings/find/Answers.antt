@@ -1,6 +1,6 @@
 use Rattle.std.proofs.Common.{ℕ, List, subst, sym, Contains}
-use Rattle.name_walk.specs.Findings.{AreFromQuery, AreRight, WalkFindings}
-use Rattle.name_walk.proofs.StableFindings.{nothing_consistent, nothing_right}
+use Rattle.name_walk.specs.Findings.{AreRightWalkFindings, AreWalkedFromQuery, WalkFindings}
+use Rattle.name_walk.proofs.StableFindings.{idle_walk_trace_is_consistent, no_walk_findings_are_right}
 use Rattle.name_walk.proofs.findings.Findings.find.Goals as goal
 use Rattle.general_lemmas.proofs.Members.{no_member}
 
@@ -15,7 +15,8 @@ search_from-requires-clause-consistent c = c.self.invariant
 
 pub search_from-requires-clause-right : goal.search_from-requires-clause-right
 search_from-requires-clause-right c =
-    (subst (λ (f : WalkFindings). AreRight c.args.net.now.steps.now c.args.net.now.settled.now f) (sym c.self.view_is)
+    (subst (λ (f : WalkFindings). AreRightWalkFindings c.args.net.now.steps.now c.args.net.now.settled.now f)
+    (sym c.self.view_is)
     c.requires.right).findings_right
 
 pub invariant_of-self : goal.invariant_of-self
@@ -26,7 +27,8 @@ clear-requires c = c.in-Err.ensures.can_clear
 
 pub invariant_of-self-in-Err : goal.invariant_of-self-in-Err
 invariant_of-self-in-Err c =
-    nothing_consistent c.clear.new.traces c.clear.new.faults.items c.clear.ensures.marks c.clear.ensures.order
+    idle_walk_trace_is_consistent c.clear.new.traces c.clear.new.faults.items c.clear.ensures.marks
+    c.clear.ensures.order
     c.clear.ensures.faults
 
 pub returns-in-Ok-clause-right : goal.returns-in-Ok-clause-right
@@ -38,7 +40,7 @@ returns-in-Ok-clause-right c = record {
 
 pub returns-in-Ok-clause-names : goal.returns-in-Ok-clause-names
 returns-in-Ok-clause-names c =
-    subst (λ (f : WalkFindings). AreFromQuery c.args.net.now.steps.now c.args.net.now.settled.now c.args.query.now
+    subst (λ (f : WalkFindings). AreWalkedFromQuery c.args.net.now.steps.now c.args.net.now.settled.now c.args.query.now
     f.names
     c.search_from.new.traces.entered_names) c.self.view_is c.in-Ok.ensures.names
 
@@ -50,7 +52,7 @@ returns-in-Ok-clause-err c = tt
 
 pub returns-in-Err-clause-right : goal.returns-in-Err-clause-right
 returns-in-Err-clause-right c =
-    nothing_right _ _ _ (record {
+    no_walk_findings_are_right _ _ _ (record {
       no_sound_names = c.clear.ensures.order;
       no_faults = c.clear.ensures.faults;
       names = c.clear.ensures.marks.none_entered;

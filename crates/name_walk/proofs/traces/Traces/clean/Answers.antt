@@ -2,15 +2,15 @@ use Rattle.std.proofs.Common.{◌≡◌, ◌<◌, ◌∷◌, [], ◌++◌, ℕ, 
 use Rattle.std.proofs.lemmas.List.Elements.{Contains-push}
 use Rattle.name_walk.specs.declared.mark.Mark.{Mark}
 use Rattle.name_walk.specs.declared.mark.Mark.TheVariants.{Open}
-use Rattle.name_walk.specs.Traces.{AreEntered}
+use Rattle.name_walk.specs.Traces.{AreWalkNamesEntered}
 use Rattle.name_walk.proofs.Marks.{entered_pop}
 use Rattle.name_walk.proofs.traces.Traces.clean.Goals as goal
 
 -- the removed name was the last entered name
-last_entered : {marks : List Mark} {names : List ℕ} (rest : List ℕ) (n : ℕ) → AreEntered marks names
+last_entered : {marks : List Mark} {names : List ℕ} (rest : List ℕ) (n : ℕ) → AreWalkNamesEntered marks names
     → names ≡ rest ++ n ∷ []
-    → AreEntered marks (rest ++ n ∷ [])
-last_entered {marks} rest n h e = subst (λ (xs : List ℕ). AreEntered marks xs) e h
+    → AreWalkNamesEntered marks (rest ++ n ∷ [])
+last_entered {marks} rest n h e = subst (λ (xs : List ℕ). AreWalkNamesEntered marks xs) e h
 
 pub index_mut-requires : goal.index_mut-requires
 index_mut-requires c =

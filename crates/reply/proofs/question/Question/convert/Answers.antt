@@ -1,8 +1,8 @@
 use Rattle.std.proofs.Common.{Err, ap, subst, sym, ◌∙◌}
 use Rattle.std.proofs.lemmas.Result.{err_from_is_err_and}
-use Rattle.deck.specs.Decks.{Contents}
-use Rattle.deck.specs.Tables.{table}
-use Rattle.reply.specs.Calls.{IsInquired, itself}
+use Rattle.deck.specs.Decks.{DeckContents}
+use Rattle.deck.specs.Tables.{table_of_deck}
+use Rattle.reply.specs.Calls.{IsInquiryAnswered, inquiry_identity}
 use Rattle.reply.specs.Conversions.{conversion}
 use Rattle.reply.specs.Targets.{conversion_target}
 use Rattle.reply.proofs.ConversionCalls.{convert-done, convert-stopped, convert-unvalued}
@@ -11,8 +11,8 @@ use Rattle.reply.proofs.question.Question.convert.Goals as goal
 pub returns-in_err-x-clause-inquired : goal.returns-in_err-x-clause-inquired
 returns-in_err-x-clause-inquired g c =
     let p = err_from_is_err_and c.from_residual.result c.from_residual.ensures.1 in
-    subst (λ r. IsInquired itself
-    (conversion (table c.args.table.now.deck) c.args.self.now.options.now c.args.self.now.from.now
+    subst (λ r. IsInquiryAnswered inquiry_identity
+    (conversion (table_of_deck c.args.table.now.deck) c.args.self.now.options.now c.args.self.now.from.now
     c.args.self.now.to.now) r
     c.args.table.now c.evaluate_text.new.table c.args.steps.now c.evaluate_text.new.steps) (sym (p.1 ∙ ap Err p.2))
     (convert-unvalued c.args.self.now.options.now c.args.self.now.from.now c.args.self.now.to.now c.args.table.now
@@ -22,8 +22,8 @@ returns-in_err-x-clause-inquired g c =
 pub returns-in_err-target-clause-inquired : goal.returns-in_err-target-clause-inquired
 returns-in_err-target-clause-inquired g c =
     let p = err_from_is_err_and c.from_residual-in_err-target.result c.from_residual-in_err-target.ensures.1 in
-    subst (λ r. IsInquired itself
-    (conversion (table c.args.table.now.deck) c.args.self.now.options.now c.args.self.now.from.now
+    subst (λ r. IsInquiryAnswered inquiry_identity
+    (conversion (table_of_deck c.args.table.now.deck) c.args.self.now.options.now c.args.self.now.from.now
     c.args.self.now.to.now) r
     c.args.table.now c.evaluate_text.new.table c.args.steps.now c.evaluate_text.new.steps) (sym (p.1 ∙ ap Err p.2))
     (convert-stopped c.args.self.now.options.now c.args.self.now.from.now c.args.self.now.to.now c.args.table.now
@@ -32,7 +32,7 @@ returns-in_err-target-clause-inquired g c =
 
 pub convert_to_target-requires : goal.convert_to_target-requires
 convert_to_target-requires g c =
-    c.in_ok-target.ensures ∙ ap (λ (d : Contents). conversion_target (table d) c.args.self.now.to.now)
+    c.in_ok-target.ensures ∙ ap (λ (d : DeckContents). conversion_target (table_of_deck d) c.args.self.now.to.now)
     c.deck.ensures.deck
 
 pub returns-clause-inquired : goal.returns-clause-inquired

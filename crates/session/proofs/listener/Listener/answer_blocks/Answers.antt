@@ -1,13 +1,14 @@
 use Rattle.std.proofs.Common.{◌++◌, [], inl, take, refl, sym, ap, arith, Some, ◌∙◌}
 use Rattle.std.proofs.Math.Nat.{le_trans}
-use Rattle.session.specs.Worlds.{source_of}
-use Rattle.session.proofs.Blocks.{cut_part, heard_by, loses_from_known, none_left}
-use Rattle.session.proofs.Blocks.{output_cut_short}
-use Rattle.session.proofs.Blocks.{rose_since, took_enough, took_more}
-use Rattle.session.proofs.SourceEnding.{cause_since, ended_at, length_cause, memory_cause, read_cause}
-use Rattle.session.proofs.SinkGrowth.{grows_again, same_grows}
-use Rattle.session.proofs.HeardLines.{told_input}
-use Rattle.session.proofs.TakingUp.{names_none_at}
+use Rattle.session.specs.Worlds.{session_source}
+use Rattle.session.proofs.Blocks.{cut_part, heard_input_is_read_to_end, known_session_input_is_lost}
+use Rattle.session.proofs.Blocks.{no_session_input_is_left, output_cut_short, session_count_rose_earlier}
+use Rattle.session.proofs.Blocks.{session_took_another_block, session_took_more_than_limit}
+use Rattle.session.proofs.SourceEnding.{length_cause, memory_cause, read_cause, session_end_cause_since_earlier}
+use Rattle.session.proofs.SourceEnding.{session_ended_over_equal_input}
+use Rattle.session.proofs.SinkGrowth.{session_sink_grows_again, unwritten_session_sink_grows}
+use Rattle.session.proofs.HeardLines.{equal_heard_input_loads_file}
+use Rattle.session.proofs.TakingUp.{equal_heard_input_names_no_file}
 use Rattle.session.proofs.listener.Listener.answer_blocks.Goals as goal
 use Rattle.general_lemmas.proofs.Parts.{front_whole, rejoined, no_rest}
 
@@ -23,8 +24,8 @@ loop-total-init g c = record {
     omega (arith, c.as_mut_slice-block.ensures.len, c.in-Ok.ensures.len),
   );
   counted = inl (omega arith);
-  out_grows = same_grows _;
-  err_grows = same_grows _;
+  out_grows = unwritten_session_sink_grows _;
+  err_grows = unwritten_session_sink_grows _;
   holds = λ input q h. ([], input, refl, q, h);
   unasked = λ input q h none. refl;
   stands = λ first input start q t at. ([], input, refl, q, at);
@@ -35,7 +36,7 @@ returns-in_default-clause-run g c = record {
   run_if_known = λ first input start q t ff fs at. cut_part first [] _ _ _ _ at input input _ refl refl refl refl;
   whole_run = λ input q h d. cc;
   has_cause = memory_cause _ _;
-  grows = record { out = same_grows _; err = same_grows _ };
+  grows = record { out = unwritten_session_sink_grows _; err = unwritten_session_sink_grows _ };
 }
 
 pub returns-in-Err-clause-run : goal.returns-in-Err-clause-run
@@ -47,72 +48,84 @@ returns-in-Err-clause-run g c = record {
             refl,
       );
   whole_run = λ input q h d. cc;
-  has_cause = read_cause _ _ (rose_since _ _ _ c.loop-total.invariant.earlier c.in-Err.ensures.cause.failure_counted);
+  has_cause = read_cause _ _
+      (session_count_rose_earlier _ _ _ c.loop-total.invariant.earlier c.in-Err.ensures.cause.failure_counted);
   grows = record { out = c.loop-total.invariant.out_grows; err = c.loop-total.invariant.err_grows };
 }
 
 pub returns-then-n-eq0-clause-run : goal.returns-then-n-eq0-clause-run
 returns-then-n-eq0-clause-run g c =
-    let old = source_of (g.S.Source.left c.loop-total.src) (g.S.Source.taken c.loop-total.src)
+    let old = session_source (g.S.Source.left c.loop-total.src) (g.S.Source.taken c.loop-total.src)
     (g.S.Source.faults c.loop-total.src) in
-    let new = source_of (g.S.Source.left c.take.new.self) (g.S.Source.taken c.take.new.self)
+    let new = session_source (g.S.Source.left c.take.new.self) (g.S.Source.taken c.take.new.self)
     (g.S.Source.faults c.take.new.self) in
-    let first_seen = source_of (g.S.Source.left c.args.src.now) (g.S.Source.taken c.args.src.now)
+    let first_seen = session_source (g.S.Source.left c.args.src.now) (g.S.Source.taken c.args.src.now)
     (g.S.Source.faults c.args.src.now) in
     record {
       run_if_known = λ first input start q t ff fs at.
           let p = c.loop-total.invariant.stands first input start q t at in
-          ended_at first p.0 input c.answer_end.result start _
-          (front_whole input p.0 p.1 p.2 (none_left _ p.1 p.3 (c.in-Ok-take.ensures.end c.if-n-eq0.true)))
+          session_ended_over_equal_input first p.0 input c.answer_end.result start _
+          (front_whole input p.0 p.1 p.2
+          (no_session_input_is_left _ p.1 p.3 (c.in-Ok-take.ensures.end c.if-n-eq0.true)))
           ((c.answer_end.ensures.run old new).run_if_known first p.0 start
-          (told_input _ _ start.files
-          (front_whole input p.0 p.1 p.2 (none_left _ p.1 p.3 (c.in-Ok-take.ensures.end c.if-n-eq0.true))) t)
+          (equal_heard_input_loads_file _ _ start.files
+          (front_whole input p.0 p.1 p.2
+          (no_session_input_is_left _ p.1 p.3 (c.in-Ok-take.ensures.end c.if-n-eq0.true))) t)
           (le_trans ff c.loop-total.invariant.later) (le_trans fs c.loop-total.invariant.stores_later)
           p.4);
       whole_run = λ input q h d.
           let p = c.loop-total.invariant.holds input q h in
-          let lost = loses_from_known _ _ p.1 (take c.in-Ok-take.n c.take.new.buf) p.3 c.in-Ok-take.ensures.bytes in
+          let lost = known_session_input_is_lost _ _ p.1 (take c.in-Ok-take.n c.take.new.buf) p.3
+          c.in-Ok-take.ensures.bytes in
           inl (lost.1
-          ∙ ap Some (no_rest _ _ _ lost.2 (none_left _ p.1 p.3 (c.in-Ok-take.ensures.end c.if-n-eq0.true))));
-      has_cause = cause_since c.answer_end.result first_seen _ _ _ _ _ _ _ _ _ c.loop-total.invariant.out_later
+          ∙ ap Some (no_rest _ _ _ lost.2
+          (no_session_input_is_left _ p.1 p.3 (c.in-Ok-take.ensures.end c.if-n-eq0.true))));
+      has_cause = session_end_cause_since_earlier c.answer_end.result first_seen _ _ _ _ _ _ _ _ _
+          c.loop-total.invariant.out_later
           c.loop-total.invariant.err_later c.loop-total.invariant.later c.loop-total.invariant.stores_later
           (c.answer_end.ensures.run first_seen new).has_cause;
       grows = record {
-        out = grows_again _ _ _ c.loop-total.invariant.out_grows (c.answer_end.ensures.run old new).grows.out;
-        err = grows_again _ _ _ c.loop-total.invariant.err_grows (c.answer_end.ensures.run old new).grows.err;
+        out = session_sink_grows_again _ _ _ c.loop-total.invariant.out_grows
+            (c.answer_end.ensures.run old new).grows.out;
+        err = session_sink_grows_again _ _ _ c.loop-total.invariant.err_grows
+            (c.answer_end.ensures.run old new).grows.err;
       };
     }
 
 pub returns-in-Some-clause-run : goal.returns-in-Some-clause-run
 returns-in-Some-clause-run g c =
-    let old = source_of (g.S.Source.left c.loop-total.src) (g.S.Source.taken c.loop-total.src)
+    let old = session_source (g.S.Source.left c.loop-total.src) (g.S.Source.taken c.loop-total.src)
     (g.S.Source.faults c.loop-total.src) in
-    let new = source_of (g.S.Source.left c.take.new.self) (g.S.Source.taken c.take.new.self)
+    let new = session_source (g.S.Source.left c.take.new.self) (g.S.Source.taken c.take.new.self)
     (g.S.Source.faults c.take.new.self) in
-    let first_seen = source_of (g.S.Source.left c.args.src.now) (g.S.Source.taken c.args.src.now)
+    let first_seen = session_source (g.S.Source.left c.args.src.now) (g.S.Source.taken c.args.src.now)
     (g.S.Source.faults c.args.src.now) in
     record {
       run_if_known = λ first input start q t ff fs at.
           let p = c.loop-total.invariant.stands first input start q t at in
-          let lost = loses_from_known _ _ p.1 (take c.in-Ok-take.n c.take.new.buf) p.3 c.in-Ok-take.ensures.bytes in
-          ended_at first _ input c.in-Some.end start _ (rejoined input p.0 p.1 _ lost.0 p.2 lost.2)
+          let lost = known_session_input_is_lost _ _ p.1 (take c.in-Ok-take.n c.take.new.buf) p.3
+          c.in-Ok-take.ensures.bytes in
+          session_ended_over_equal_input first _ input c.in-Some.end start _
+          (rejoined input p.0 p.1 _ lost.0 p.2 lost.2)
           ((c.in-Some.ensures.run old new).run_if_known first p.0 lost.0 start
-          (told_input _ _ start.files (rejoined input p.0 p.1 _ lost.0 p.2 lost.2) t)
+          (equal_heard_input_loads_file _ _ start.files (rejoined input p.0 p.1 _ lost.0 p.2 lost.2) t)
           (le_trans ff c.loop-total.invariant.later) (le_trans fs c.loop-total.invariant.stores_later)
           p.4);
       whole_run = λ input q h d.
           let p = c.loop-total.invariant.holds input q h in
-          let lost = loses_from_known _ _ p.1 (take c.in-Ok-take.n c.take.new.buf) p.3 c.in-Ok-take.ensures.bytes in
-          heard_by input p.0 (take c.in-Ok-take.n c.take.new.buf) lost.0 _
+          let lost = known_session_input_is_lost _ _ p.1 (take c.in-Ok-take.n c.take.new.buf) p.3
+          c.in-Ok-take.ensures.bytes in
+          heard_input_is_read_to_end input p.0 (take c.in-Ok-take.n c.take.new.buf) lost.0 _
           (rejoined input p.0 p.1 _ lost.0 p.2 lost.2)
           lost.1
           (c.in-Some.ensures.cut p.0 p.4 d);
-      has_cause = cause_since c.in-Some.end first_seen _ _ _ _ _ _ _ _ _ c.loop-total.invariant.out_later
+      has_cause = session_end_cause_since_earlier c.in-Some.end first_seen _ _ _ _ _ _ _ _ _
+          c.loop-total.invariant.out_later
           c.loop-total.invariant.err_later c.loop-total.invariant.later c.loop-total.invariant.stores_later
           (c.in-Some.ensures.run first_seen new).has_cause;
       grows = record {
-        out = grows_again _ _ _ c.loop-total.invariant.out_grows (c.in-Some.ensures.run old new).grows.out;
-        err = grows_again _ _ _ c.loop-total.invariant.err_grows (c.in-Some.ensures.run old new).grows.err;
+        out = session_sink_grows_again _ _ _ c.loop-total.invariant.out_grows (c.in-Some.ensures.run old new).grows.out;
+        err = session_sink_grows_again _ _ _ c.loop-total.invariant.err_grows (c.in-Some.ensures.run old new).grows.err;
       };
     }
 
@@ -124,16 +137,17 @@ returns-clause-run g c = record {
         output_cut_short first p.0 _ _ _ _ p.4 input p.1 _ p.2 p.3 refl refl refl refl,
       );
   whole_run = λ input q h d. cc;
-  has_cause = length_cause _ _ (took_enough c.loop-total.total 4294967296 _ _ c.loop-total.invariant.counted
+  has_cause = length_cause _ _
+      (session_took_more_than_limit c.loop-total.total 4294967296 _ _ c.loop-total.invariant.counted
       (omega (arith, c.loop-total-test.false)));
   grows = record { out = c.loop-total.invariant.out_grows; err = c.loop-total.invariant.err_grows };
 }
 
 pub loop-total-preserved : goal.loop-total-preserved
 loop-total-preserved g c =
-    let old = source_of (g.S.Source.left c.loop-total.src) (g.S.Source.taken c.loop-total.src)
+    let old = session_source (g.S.Source.left c.loop-total.src) (g.S.Source.taken c.loop-total.src)
     (g.S.Source.faults c.loop-total.src) in
-    let new = source_of (g.S.Source.left c.take.new.self) (g.S.Source.taken c.take.new.self)
+    let new = session_source (g.S.Source.left c.take.new.self) (g.S.Source.taken c.take.new.self)
     (g.S.Source.faults c.take.new.self) in
     let behind = c.in_default-answer_block.ensures.run old new in
     record {
@@ -142,11 +156,12 @@ loop-total-preserved g c =
       earlier = omega (arith, c.in-Ok-take.ensures.cause.count_grows, c.loop-total.invariant.earlier);
       out_later = le_trans c.loop-total.invariant.out_later behind.counts_later.out;
       err_later = le_trans c.loop-total.invariant.err_later behind.counts_later.err;
-      out_grows = grows_again _ _ _ c.loop-total.invariant.out_grows behind.grows.out;
-      err_grows = grows_again _ _ _ c.loop-total.invariant.err_grows behind.grows.err;
+      out_grows = session_sink_grows_again _ _ _ c.loop-total.invariant.out_grows behind.grows.out;
+      err_grows = session_sink_grows_again _ _ _ c.loop-total.invariant.err_grows behind.grows.err;
       holds = λ input q h.
           let p = c.loop-total.invariant.holds input q h in
-          let lost = loses_from_known _ _ p.1 (take c.in-Ok-take.n c.take.new.buf) p.3 c.in-Ok-take.ensures.bytes in (
+          let lost = known_session_input_is_lost _ _ p.1 (take c.in-Ok-take.n c.take.new.buf) p.3
+          c.in-Ok-take.ensures.bytes in (
             p.0 ++ take c.in-Ok-take.n c.take.new.buf,
             lost.0,
             sym (rejoined input p.0 p.1 _ lost.0 p.2 lost.2),
@@ -155,22 +170,24 @@ loop-total-preserved g c =
           );
       unasked = λ input q h none.
           let p = c.loop-total.invariant.holds input q h in
-          let lost = loses_from_known _ _ p.1 (take c.in-Ok-take.n c.take.new.buf) p.3 c.in-Ok-take.ensures.bytes in
+          let lost = known_session_input_is_lost _ _ p.1 (take c.in-Ok-take.n c.take.new.buf) p.3
+          c.in-Ok-take.ensures.bytes in
           c.answer_block.ensures.unasked p.0 lost.0 p.4
-          (names_none_at _ _ (rejoined input p.0 p.1 _ lost.0 p.2 lost.2) none)
+          (equal_heard_input_names_no_file _ _ (rejoined input p.0 p.1 _ lost.0 p.2 lost.2) none)
           ∙ c.loop-total.invariant.unasked input q h none;
       room = (omega (arith, c.loop-total.invariant.room.0), omega (arith, c.loop-total.invariant.room.1));
-      counted = took_more c.loop-total.total c.in-Ok-take.n _ _ _ c.loop-total.invariant.counted
+      counted = session_took_another_block c.loop-total.total c.in-Ok-take.n _ _ _ c.loop-total.invariant.counted
           c.in-Ok-take.ensures.count;
       stands = λ first input start q t at.
           let p = c.loop-total.invariant.stands first input start q t at in
-          let lost = loses_from_known _ _ p.1 (take c.in-Ok-take.n c.take.new.buf) p.3 c.in-Ok-take.ensures.bytes in (
+          let lost = known_session_input_is_lost _ _ p.1 (take c.in-Ok-take.n c.take.new.buf) p.3
+          c.in-Ok-take.ensures.bytes in (
             p.0 ++ take c.in-Ok-take.n c.take.new.buf,
             lost.0,
             sym (rejoined input p.0 p.1 _ lost.0 p.2 lost.2),
             lost.1,
             behind.waits_on first p.0 lost.0 start
-                (told_input _ _ start.files (rejoined input p.0 p.1 _ lost.0 p.2 lost.2) t) p.4,
+                (equal_heard_input_loads_file _ _ start.files (rejoined input p.0 p.1 _ lost.0 p.2 lost.2) t) p.4,
           );
     }
 
@@ -181,16 +198,18 @@ pub returns-then-n-eq0-clause-unasked : goal.returns-then-n-eq0-clause-unasked
 returns-then-n-eq0-clause-unasked g c = λ input q h none.
     let p = c.loop-total.invariant.holds input q h in
     c.answer_end.ensures.unasked p.0 p.4
-    (names_none_at _ _ (front_whole input p.0 p.1 p.2 (none_left _ p.1 p.3 (c.in-Ok-take.ensures.end c.if-n-eq0.true)))
+    (equal_heard_input_names_no_file _ _
+    (front_whole input p.0 p.1 p.2 (no_session_input_is_left _ p.1 p.3 (c.in-Ok-take.ensures.end c.if-n-eq0.true)))
     none)
     ∙ c.loop-total.invariant.unasked input q h none
 
 pub returns-in-Some-clause-unasked : goal.returns-in-Some-clause-unasked
 returns-in-Some-clause-unasked g c = λ input q h none.
     let p = c.loop-total.invariant.holds input q h in
-    let lost = loses_from_known _ _ p.1 (take c.in-Ok-take.n c.take.new.buf) p.3 c.in-Ok-take.ensures.bytes in
+    let lost = known_session_input_is_lost _ _ p.1 (take c.in-Ok-take.n c.take.new.buf) p.3 c.in-Ok-take.ensures.bytes
+    in
     c.answer_block.ensures.unasked p.0 lost.0 p.4
-    (names_none_at _ _ (rejoined input p.0 p.1 _ lost.0 p.2 lost.2) none)
+    (equal_heard_input_names_no_file _ _ (rejoined input p.0 p.1 _ lost.0 p.2 lost.2) none)
     ∙ c.loop-total.invariant.unasked input q h none
 
 pub returns-clause-unasked : goal.returns-clause-unasked

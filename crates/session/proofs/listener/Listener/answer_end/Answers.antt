@@ -1,6 +1,6 @@
-use Rattle.session.proofs.Blocks.{rose_since, stands}
+use Rattle.session.proofs.Blocks.{session_count_rose_earlier, stands}
 use Rattle.session.proofs.SourceEnding.{end_cause, write_cause}
-use Rattle.session.proofs.SinkGrowth.{front_grows}
+use Rattle.session.proofs.SinkGrowth.{session_sink_grows_by_front}
 use Rattle.session.proofs.OutputPieces.{last_part, last_written}
 use Rattle.session.proofs.listener.Listener.answer_end.Goals as goal
 
@@ -10,11 +10,11 @@ returns-in_default-clause-run g c = λ was is. record {
       let s = stands first input _ _ _ _ w c.clear.new.self c.clear.ensures.out c.clear.ensures.err in
       last_part first input _ _ _ _ w _ c.feed_end-fed.result c.feed_end-fed.new.self.talk.said _ _
       (c.feed_end-fed.ensures.told _ first input t s) c.write.ensures.out c.write.ensures.err
-      (λ failed. rose_since _ _ _ stores (c.feed_end-fed.ensures.faults.failed_write_counted failed));
+      (λ failed. session_count_rose_earlier _ _ _ stores (c.feed_end-fed.ensures.faults.failed_write_counted failed));
   has_cause = write_cause _ _ c.in_default.ensures.cause;
   grows = record {
-    out = front_grows _ _ _ c.write.ensures.out;
-    err = front_grows _ _ _ c.write.ensures.err;
+    out = session_sink_grows_by_front _ _ _ c.write.ensures.out;
+    err = session_sink_grows_by_front _ _ _ c.write.ensures.err;
   };
 }
 
@@ -25,14 +25,14 @@ returns-clause-run g c = λ was is. record {
       last_written first input _ _ _ _ w _ c.feed_end-fed.result c.feed_end-fed.new.self.talk.said _ _
       (c.feed_end-fed.ensures.told _ first input t s) c.last_end.result c.last_end.ensures
       c.in-Ok.ensures.whole.0 c.in-Ok.ensures.whole.1
-      (λ failed. rose_since _ _ _ fetches (c.feed_end-fed.ensures.faults.cause failed))
-      (λ failed. rose_since _ _ _ stores (c.feed_end-fed.ensures.faults.failed_write_counted failed));
+      (λ failed. session_count_rose_earlier _ _ _ fetches (c.feed_end-fed.ensures.faults.cause failed))
+      (λ failed. session_count_rose_earlier _ _ _ stores (c.feed_end-fed.ensures.faults.failed_write_counted failed));
   has_cause = end_cause _ _ c.feed_end-fed.result c.last_end.result c.last_end.ensures
       (λ failed. c.feed_end-fed.ensures.faults.cause failed)
       (λ failed. c.feed_end-fed.ensures.faults.failed_write_counted failed);
   grows = record {
-    out = front_grows _ _ _ c.write.ensures.out;
-    err = front_grows _ _ _ c.write.ensures.err;
+    out = session_sink_grows_by_front _ _ _ c.write.ensures.out;
+    err = session_sink_grows_by_front _ _ _ c.write.ensures.err;
   };
 }
 

@@ -1,57 +1,64 @@
 use Rattle.std.proofs.Common.{◌++◌, arith, ap, sym, ◌∙◌, option_map}
 use Rattle.std.proofs.lemmas.List.{append-nil}
-use Rattle.def_entry.specs.LineViews.{seen_pair}
-use Rattle.def_entry.proofs.CutParts.{shorter}
-use Rattle.session.specs.Input.{whole_lines, unfinished_line}
-use Rattle.session.specs.SessionProgress.{now_of}
-use Rattle.session.specs.Talks.{trace_over}
+use Rattle.def_entry.specs.LineViews.{seen_entry_text_pair}
+use Rattle.def_entry.proofs.CutParts.{cut_entry_text_is_shorter}
+use Rattle.session.specs.Input.{whole_input_lines, unfinished_input_line}
+use Rattle.session.specs.SessionProgress.{session_now_of}
+use Rattle.session.specs.Talks.{talk_over_lines}
 use Rattle.session.specs.declared.fault.SessionFault.TheVariants.{OutOfMemory}
-use Rattle.session.proofs.BlockFeeds.{line_fed, line_lost, line_over, rest_held, rest_lost, stands_holds}
+use Rattle.session.proofs.BlockFeeds.{line_fed, line_lost, line_over, rest_held, rest_lost, talk_holds_input_rest}
 use Rattle.session.proofs.HeardLines.{line_holds, line_last, line_names_none, line_told, rest_holds}
 use Rattle.session.proofs.listener.Listener.feed_block.Goals as goal
 
 pub returns-in-Ok-true-clause-told : goal.returns-in-Ok-true-clause-told
 returns-in-Ok-true-clause-told g c = λ base first taken more t s.
     let p = c.loop-piece.invariant.fed base first taken more t s in
-    let told = c.in-Ok-true.ensures.told base (trace_over first (whole_lines (taken ++ p.0)))
-    (unfinished_line (taken ++ p.0)) p.2.held_part
+    let told = c.in-Ok-true.ensures.told base (talk_over_lines first (whole_input_lines (taken ++ p.0)))
+    (unfinished_input_line (taken ++ p.0)) p.2.held_part
     (line_told taken c.args.rest.now.now p.0 c.loop-piece.rest.now c.loop-piece.self.held p.1
-    (stands_holds base first _ _ _ p.2)
+    (talk_holds_input_rest base first _ _ _ p.2)
     c.in-Some.piece.now c.in-Some.behind.now (sym c.in-Some.ensures) more base.files t) p.2.is_at in
     line_over base first taken c.args.rest.now.now p.0 c.loop-piece.rest.now c.loop-piece.self.held
-    (now_of c.loop-piece.self.talk.said c.loop-piece.self.talk.session (g.F.Files.files c.loop-piece.files) c.loop-piece.steps) p.1 p.2
+    (session_now_of c.loop-piece.self.talk.said c.loop-piece.self.talk.session (g.F.Files.files c.loop-piece.files)
+    c.loop-piece.steps) p.1 p.2
     c.in-Some.piece.now
     c.in-Some.behind.now (sym c.in-Some.ensures) more
-    (now_of c.end_line.new.self.talk.said c.end_line.new.self.talk.session (g.F.Files.files c.end_line.new.files) c.end_line.new.steps)
+    (session_now_of c.end_line.new.self.talk.said c.end_line.new.self.talk.session
+    (g.F.Files.files c.end_line.new.files) c.end_line.new.steps)
     (sym c.in-Ok-true.field-0-test ∙ told.0) told.2
 
 pub returns-in-Err-clause-told : goal.returns-in-Err-clause-told
 returns-in-Err-clause-told g c = λ base first taken more t s.
     let p = c.loop-piece.invariant.fed base first taken more t s in
     line_lost base first taken c.args.rest.now.now p.0 c.loop-piece.rest.now c.loop-piece.self.held
-    (now_of c.loop-piece.self.talk.said c.loop-piece.self.talk.session (g.F.Files.files c.loop-piece.files) c.loop-piece.steps) p.1 p.2
+    (session_now_of c.loop-piece.self.talk.said c.loop-piece.self.talk.session (g.F.Files.files c.loop-piece.files)
+    c.loop-piece.steps) p.1 p.2
     c.in-Some.piece.now
     c.in-Some.behind.now (sym c.in-Some.ensures) c.in-Err.fault more
-    (now_of c.end_line.new.self.talk.said c.end_line.new.self.talk.session (g.F.Files.files c.end_line.new.files) c.end_line.new.steps)
-    (c.in-Err.ensures.told base (trace_over first (whole_lines (taken ++ p.0))) (unfinished_line (taken ++ p.0))
+    (session_now_of c.end_line.new.self.talk.said c.end_line.new.self.talk.session
+    (g.F.Files.files c.end_line.new.files) c.end_line.new.steps)
+    (c.in-Err.ensures.told base (talk_over_lines first (whole_input_lines (taken ++ p.0)))
+    (unfinished_input_line (taken ++ p.0))
     p.2.held_part
     (line_told taken c.args.rest.now.now p.0 c.loop-piece.rest.now c.loop-piece.self.held p.1
-    (stands_holds base first _ _ _ p.2)
+    (talk_holds_input_rest base first _ _ _ p.2)
     c.in-Some.piece.now c.in-Some.behind.now (sym c.in-Some.ensures) more base.files t) p.2.is_at)
 
 pub returns-then-is_long-clause-told : goal.returns-then-is_long-clause-told
 returns-then-is_long-clause-told g c = λ base first taken more t s.
     let p = c.loop-piece.invariant.fed base first taken more t s in
-    let told = c.in-Ok-false.ensures.told base (trace_over first (whole_lines (taken ++ p.0)))
-    (unfinished_line (taken ++ p.0)) p.2.held_part
+    let told = c.in-Ok-false.ensures.told base (talk_over_lines first (whole_input_lines (taken ++ p.0)))
+    (unfinished_input_line (taken ++ p.0)) p.2.held_part
     (line_told taken c.args.rest.now.now p.0 c.loop-piece.rest.now c.loop-piece.self.held p.1
-    (stands_holds base first _ _ _ p.2)
+    (talk_holds_input_rest base first _ _ _ p.2)
     c.in-Some.piece.now c.in-Some.behind.now (sym c.in-Some.ensures) more base.files t) p.2.is_at in
     line_fed base first taken c.args.rest.now.now p.0 c.loop-piece.rest.now c.loop-piece.self.held
-    (now_of c.loop-piece.self.talk.said c.loop-piece.self.talk.session (g.F.Files.files c.loop-piece.files) c.loop-piece.steps) p.1 p.2
+    (session_now_of c.loop-piece.self.talk.said c.loop-piece.self.talk.session (g.F.Files.files c.loop-piece.files)
+    c.loop-piece.steps) p.1 p.2
     c.in-Some.piece.now
     c.in-Some.behind.now (sym c.in-Some.ensures) c.end_line.new.self.held
-    (now_of c.end_line.new.self.talk.said c.end_line.new.self.talk.session (g.F.Files.files c.end_line.new.files) c.end_line.new.steps)
+    (session_now_of c.end_line.new.self.talk.said c.end_line.new.self.talk.session
+    (g.F.Files.files c.end_line.new.files) c.end_line.new.steps)
     (sym c.in-Ok-false.field-0-test ∙ told.0) told.1 told.2
 
 pub loop-piece-preserved : goal.loop-piece-preserved
@@ -60,32 +67,35 @@ loop-piece-preserved g c = record {
   later = omega (arith, c.in-Ok-false.ensures.faults.stores_grow, c.loop-piece.invariant.later);
   within = omega (
     arith,
-    shorter 10 c.loop-piece.rest.now c.in-Some.piece.now c.in-Some.behind.now (sym c.in-Some.ensures),
+    cut_entry_text_is_shorter 10 c.loop-piece.rest.now c.in-Some.piece.now c.in-Some.behind.now (sym c.in-Some.ensures),
     c.loop-piece.invariant.within,
   );
   holds = λ taken h.
       let p = c.loop-piece.invariant.holds taken h in
-      let last = c.in-Ok-false.ensures.last (unfinished_line (taken ++ p.0)) p.2.held_part in
+      let last = c.in-Ok-false.ensures.last (unfinished_input_line (taken ++ p.0)) p.2.held_part in
       line_holds taken c.args.rest.now.now p.0 c.loop-piece.rest.now c.loop-piece.self.held p.1 p.2 c.in-Some.piece.now
-      c.in-Some.behind.now (sym c.in-Some.ensures) c.end_line.new.self.held (sym c.in-Ok-false.field-0-test ∙ last.0) last.1;
+      c.in-Some.behind.now (sym c.in-Some.ensures) c.end_line.new.self.held (sym c.in-Ok-false.field-0-test ∙ last.0)
+      last.1;
   unasked = λ taken more h none.
       let p = c.loop-piece.invariant.holds taken h in
-      c.end_line.ensures.unasked (unfinished_line (taken ++ p.0)) p.2.held_part
+      c.end_line.ensures.unasked (unfinished_input_line (taken ++ p.0)) p.2.held_part
       (line_names_none taken c.args.rest.now.now p.0 c.loop-piece.rest.now c.loop-piece.self.held p.1 p.2
       c.in-Some.piece.now c.in-Some.behind.now (sym c.in-Some.ensures) more none)
       ∙ c.loop-piece.invariant.unasked taken more h none;
   fed = λ base first taken more t s.
       let p = c.loop-piece.invariant.fed base first taken more t s in
-      let told = c.in-Ok-false.ensures.told base (trace_over first (whole_lines (taken ++ p.0)))
-      (unfinished_line (taken ++ p.0)) p.2.held_part
+      let told = c.in-Ok-false.ensures.told base (talk_over_lines first (whole_input_lines (taken ++ p.0)))
+      (unfinished_input_line (taken ++ p.0)) p.2.held_part
       (line_told taken c.args.rest.now.now p.0 c.loop-piece.rest.now c.loop-piece.self.held p.1
-      (stands_holds base first _ _ _ p.2)
+      (talk_holds_input_rest base first _ _ _ p.2)
       c.in-Some.piece.now c.in-Some.behind.now (sym c.in-Some.ensures) more base.files t) p.2.is_at in
       line_fed base first taken c.args.rest.now.now p.0 c.loop-piece.rest.now c.loop-piece.self.held
-      (now_of c.loop-piece.self.talk.said c.loop-piece.self.talk.session (g.F.Files.files c.loop-piece.files) c.loop-piece.steps) p.1 p.2
+      (session_now_of c.loop-piece.self.talk.said c.loop-piece.self.talk.session (g.F.Files.files c.loop-piece.files)
+      c.loop-piece.steps) p.1 p.2
       c.in-Some.piece.now
       c.in-Some.behind.now (sym c.in-Some.ensures) c.end_line.new.self.held
-      (now_of c.end_line.new.self.talk.said c.end_line.new.self.talk.session (g.F.Files.files c.end_line.new.files) c.end_line.new.steps)
+      (session_now_of c.end_line.new.self.talk.said c.end_line.new.self.talk.session
+      (g.F.Files.files c.end_line.new.files) c.end_line.new.steps)
       (sym c.in-Ok-false.field-0-test ∙ told.0) told.1 told.2;
 }
 
@@ -95,32 +105,35 @@ returns-in-Ok-clause-told g c = λ base first taken more t s.
       c.args.rest.now.now,
       sym (append-nil c.args.rest.now.now),
       rest_held base first taken c.args.rest.now.now p.0 c.loop-piece.rest.now c.loop-piece.self.held
-          (now_of c.loop-piece.self.talk.said c.loop-piece.self.talk.session (g.F.Files.files c.loop-piece.files) c.loop-piece.steps) p.1
+          (session_now_of c.loop-piece.self.talk.said c.loop-piece.self.talk.session
+          (g.F.Files.files c.loop-piece.files) c.loop-piece.steps) p.1
           p.2
-          (sym c.cut_at.ensures ∙ ap (option_map seen_pair) c.in_default.is) c.add.new.self
-          (c.in-Ok.ensures (unfinished_line (taken ++ p.0)) p.2.held_part),
+          (sym c.cut_at.ensures ∙ ap (option_map seen_entry_text_pair) c.in_default.is) c.add.new.self
+          (c.in-Ok.ensures (unfinished_input_line (taken ++ p.0)) p.2.held_part),
     )
 
 pub returns-in-Err-add-clause-told : goal.returns-in-Err-add-clause-told
 returns-in-Err-add-clause-told g c = λ base first taken more t s.
     let p = c.loop-piece.invariant.fed base first taken more t s in
     rest_lost base first taken c.args.rest.now.now p.0 c.loop-piece.rest.now c.loop-piece.self.held
-    (now_of c.loop-piece.self.talk.said c.loop-piece.self.talk.session (g.F.Files.files c.loop-piece.files) c.loop-piece.steps) p.1 p.2
+    (session_now_of c.loop-piece.self.talk.said c.loop-piece.self.talk.session (g.F.Files.files c.loop-piece.files)
+    c.loop-piece.steps) p.1 p.2
     OutOfMemory more
 
 pub returns-in-Ok-true-clause-cut : goal.returns-in-Ok-true-clause-cut
 returns-in-Ok-true-clause-cut g c = λ taken h.
     let p = c.loop-piece.invariant.holds taken h in
-    let last = c.in-Ok-true.ensures.last (unfinished_line (taken ++ p.0)) p.2.held_part in
+    let last = c.in-Ok-true.ensures.last (unfinished_input_line (taken ++ p.0)) p.2.held_part in
     line_last taken c.args.rest.now.now p.0 c.loop-piece.rest.now c.loop-piece.self.held p.1 p.2 c.in-Some.piece.now
     c.in-Some.behind.now (sym c.in-Some.ensures) (sym c.in-Ok-true.field-0-test ∙ last.0)
 
 pub returns-then-is_long-clause-cut : goal.returns-then-is_long-clause-cut
 returns-then-is_long-clause-cut g c = λ taken h.
     let p = c.loop-piece.invariant.holds taken h in
-    let last = c.in-Ok-false.ensures.last (unfinished_line (taken ++ p.0)) p.2.held_part in
+    let last = c.in-Ok-false.ensures.last (unfinished_input_line (taken ++ p.0)) p.2.held_part in
     line_holds taken c.args.rest.now.now p.0 c.loop-piece.rest.now c.loop-piece.self.held p.1 p.2 c.in-Some.piece.now
-    c.in-Some.behind.now (sym c.in-Some.ensures) c.end_line.new.self.held (sym c.in-Ok-false.field-0-test ∙ last.0) last.1
+    c.in-Some.behind.now (sym c.in-Some.ensures) c.end_line.new.self.held (sym c.in-Ok-false.field-0-test ∙ last.0)
+    last.1
 
 pub returns-in-Ok-clause-cut : goal.returns-in-Ok-clause-cut
 returns-in-Ok-clause-cut g c = λ taken h.
@@ -128,14 +141,14 @@ returns-in-Ok-clause-cut g c = λ taken h.
       c.args.rest.now.now,
       sym (append-nil c.args.rest.now.now),
       rest_holds taken c.args.rest.now.now p.0 c.loop-piece.rest.now c.loop-piece.self.held p.1 p.2
-          (sym c.cut_at.ensures ∙ ap (option_map seen_pair) c.in_default.is) c.add.new.self
-          (c.in-Ok.ensures (unfinished_line (taken ++ p.0)) p.2.held_part),
+          (sym c.cut_at.ensures ∙ ap (option_map seen_entry_text_pair) c.in_default.is) c.add.new.self
+          (c.in-Ok.ensures (unfinished_input_line (taken ++ p.0)) p.2.held_part),
     )
 
 pub returns-in-Ok-true-clause-unasked : goal.returns-in-Ok-true-clause-unasked
 returns-in-Ok-true-clause-unasked g c = λ taken more h none.
     let p = c.loop-piece.invariant.holds taken h in
-    c.end_line.ensures.unasked (unfinished_line (taken ++ p.0)) p.2.held_part
+    c.end_line.ensures.unasked (unfinished_input_line (taken ++ p.0)) p.2.held_part
     (line_names_none taken c.args.rest.now.now p.0 c.loop-piece.rest.now c.loop-piece.self.held p.1 p.2
     c.in-Some.piece.now c.in-Some.behind.now (sym c.in-Some.ensures) more none)
     ∙ c.loop-piece.invariant.unasked taken more h none
@@ -143,7 +156,7 @@ returns-in-Ok-true-clause-unasked g c = λ taken more h none.
 pub returns-in-Err-clause-unasked : goal.returns-in-Err-clause-unasked
 returns-in-Err-clause-unasked g c = λ taken more h none.
     let p = c.loop-piece.invariant.holds taken h in
-    c.end_line.ensures.unasked (unfinished_line (taken ++ p.0)) p.2.held_part
+    c.end_line.ensures.unasked (unfinished_input_line (taken ++ p.0)) p.2.held_part
     (line_names_none taken c.args.rest.now.now p.0 c.loop-piece.rest.now c.loop-piece.self.held p.1 p.2
     c.in-Some.piece.now c.in-Some.behind.now (sym c.in-Some.ensures) more none)
     ∙ c.loop-piece.invariant.unasked taken more h none
@@ -151,7 +164,7 @@ returns-in-Err-clause-unasked g c = λ taken more h none.
 pub returns-then-is_long-clause-unasked : goal.returns-then-is_long-clause-unasked
 returns-then-is_long-clause-unasked g c = λ taken more h none.
     let p = c.loop-piece.invariant.holds taken h in
-    c.end_line.ensures.unasked (unfinished_line (taken ++ p.0)) p.2.held_part
+    c.end_line.ensures.unasked (unfinished_input_line (taken ++ p.0)) p.2.held_part
     (line_names_none taken c.args.rest.now.now p.0 c.loop-piece.rest.now c.loop-piece.self.held p.1 p.2
     c.in-Some.piece.now c.in-Some.behind.now (sym c.in-Some.ensures) more none)
     ∙ c.loop-piece.invariant.unasked taken more h none

@@ -3,7 +3,7 @@ use Rattle.std.proofs.Common.{Some, None, is_some, refl, sym, ◌∙◌, ap}
 use Rattle.std.specs.List.{list_any, position, position_or_len}
 use Rattle.std.proofs.lemmas.Bool.{lt-ltb, ltb_from_iff, ltb-true}
 use Rattle.def_entry.specs.Keys.{key}
-use Rattle.def_entry.specs.SameKeys.{is_same}
+use Rattle.def_entry.specs.SameKeys.{is_same_entry_key}
 use Rattle.test_values.proofs.lookup.TablePresent.find.Goals as goal
 
 module _ {A : Type 0} (p : A → Bool) where
@@ -32,9 +32,9 @@ module _ {A : Type 0} (p : A → Bool) where
 pub returns-clause-present : goal.returns-clause-present
 returns-clause-present c =
     ap is_some c.place_of.ensures
-    ∙ (found (is_same (key c.args.kind c.args.name.now)) c.as_slice.result.now
-    ∙ ap (list_any (is_same (key c.args.kind c.args.name.now))) c.as_slice.ensures)
+    ∙ (found (is_same_entry_key (key c.args.kind c.args.name.now)) c.as_slice.result.now
+    ∙ ap (list_any (is_same_entry_key (key c.args.kind c.args.name.now))) c.as_slice.ensures)
 
 pub returns-clause-place : goal.returns-clause-place
 returns-clause-place c =
-    c.place_of.ensures ∙ ap (position (is_same (key c.args.kind c.args.name.now))) c.as_slice.ensures
+    c.place_of.ensures ∙ ap (position (is_same_entry_key (key c.args.kind c.args.name.now))) c.as_slice.ensures

@@ -1,5 +1,5 @@
 use Rattle.std.proofs.Common.{ap, take}
-use Rattle.units_io.specs.NamedValues.{Pairs}
+use Rattle.units_io.specs.NamedValues.{NamedTexts}
 use Rattle.units_io.proofs.Names.{pairs_of-take, HasDistinctNames-take}
 use Rattle.units_io.proofs.vars.Vars.truncate.Goals as goal
 
@@ -9,4 +9,4 @@ invariant_of-self c =
 
 pub returns : goal.returns
 returns c =
-    rw (c.truncate.ensures.entries, pairs_of-take) (ap (λ (pairs : Pairs). take c.args.len pairs) c.self.view_is)
+    rw (c.truncate.ensures.entries, pairs_of-take) (ap (λ (pairs : NamedTexts). take c.args.len pairs) c.self.view_is)

@@ -2,14 +2,14 @@ use Rattle.std.proofs.Common.{◌≡◌, ◌++◌, ℕ, Contains, List, Some, ap
 use Rattle.std.proofs.lemmas.Result.{on_ok_weaker}
 use Rattle.def_entry.specs.declared.key.Key.{Key}
 use Rattle.def_entry.specs.Keys.{key}
-use Rattle.deck.specs.Tables.{is_present, last_place, table}
-use Rattle.table_names.specs.Leads.{targets}
-use Rattle.value_sources.specs.Leads.{first_kind, lead_keys}
-use Rattle.value_sources.specs.PlacedMentions.{Placed, placed_to}
-use Rattle.value_sources.specs.StoredMentions.{placed_list}
-use Rattle.value_sources.specs.Uses.{use_at}
-use Rattle.value_sources.proofs.Leads.{named_by}
-use Rattle.value_sources.proofs.Stored.{named_placed}
+use Rattle.deck.specs.Tables.{is_entry_present, last_definition_place, table_of_deck}
+use Rattle.table_names.specs.Leads.{table_word_targets}
+use Rattle.value_sources.specs.Leads.{first_kind_of_mentioned_word, source_lead_keys}
+use Rattle.value_sources.specs.PlacedMentions.{PlacedMention, placed_mentions_to}
+use Rattle.value_sources.specs.StoredMentions.{placed_mention_list}
+use Rattle.value_sources.specs.Uses.{source_use_at}
+use Rattle.value_sources.proofs.Leads.{mentioned_name_in_force}
+use Rattle.value_sources.proofs.Stored.{named_mention_is_placed}
 use Rattle.value_sources.proofs.lookup.Lookup.put_word.Goals as goal
 
 pub returns-in-Some : goal.returns-in-Some
@@ -17,15 +17,16 @@ returns-in-Some c =
     let d = c.args.self.now.deck.now in
     let u = c.args.word.now in
     let k = c.first_kind.result in
-    let found : last_place d.settings d.lines (key k c.text.result.now) ≡ Some c.in-Some.place =
+    let found : last_definition_place d.settings d.lines (key k c.text.result.now) ≡ Some c.in-Some.place =
     sym c.place_of.ensures ∙ c.in-Some.is in
-    let placed : last_place d.settings d.lines (key k u.text) ≡ Some c.in-Some.place =
-    ap (λ (w : List ℕ). last_place d.settings d.lines (key k w)) (sym c.text.ensures) ∙ found in
-    let led = named_by d u c.lookup_law.ensures k c.text.result.now c.in-Some.place
-    (c.first_kind.ensures ∙ ap first_kind c.kind.ensures) c.text.ensures found in
+    let placed : last_definition_place d.settings d.lines (key k u.text) ≡ Some c.in-Some.place =
+    ap (λ (w : List ℕ). last_definition_place d.settings d.lines (key k w)) (sym c.text.ensures) ∙ found in
+    let led = mentioned_name_in_force d u c.lookup_law.ensures k c.text.result.now c.in-Some.place
+    (c.first_kind.ensures ∙ ap first_kind_of_mentioned_word c.kind.ensures) c.text.ensures found in
     on_ok_weaker c.put_mention.result
-    (λ e. e d ∙ ap (λ (ps : List Placed). placed_list d c.args.mentions.now.items ++ ps)
-    (named_placed d c.args.location u c.named_mention.result k c.in-Some.place (targets (table d) u)
+    (λ e. e d ∙ ap (λ (ps : List PlacedMention). placed_mention_list d c.args.mentions.now.items ++ ps)
+    (named_mention_is_placed d c.args.location u c.named_mention.result k c.in-Some.place
+    (table_word_targets (table_of_deck d) u)
     c.named_mention.ensures placed led))
     c.put_mention.ensures
 
@@ -33,11 +34,12 @@ pub returns : goal.returns
 returns c =
     let d = c.args.self.now.deck.now in
     let u = c.args.word.now in
-    let led : targets (table d) u ≡ lead_keys c.in_ok-lead.lead = c.in_ok-lead.ensures in
+    let led : table_word_targets (table_of_deck d) u ≡ source_lead_keys c.in_ok-lead.lead = c.in_ok-lead.ensures in
     on_ok_weaker c.put_lead.result
-    (λ f. f (λ n i. (c.targets_are_present.ensures (is_present (table d)) u.kind u.text n
+    (λ f. f (λ n i. (c.targets_are_present.ensures (is_entry_present (table_of_deck d)) u.kind u.text n
     (subst (λ (ks : List Key). Contains ks n) (sym led) i)).1)
-    ∙ ap (λ (ks : List Key). placed_list d c.args.mentions.now.items ++ placed_to d c.args.location.depth
-    (use_at c.args.location.site u) ks)
+    ∙ ap (λ (ks : List Key). placed_mention_list d c.args.mentions.now.items ++ placed_mentions_to d
+    c.args.location.depth
+    (source_use_at c.args.location.site u) ks)
     (sym led))
     c.put_lead.ensures

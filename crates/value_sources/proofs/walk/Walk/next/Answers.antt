@@ -1,9 +1,9 @@
 use Rattle.std.proofs.Common.{ap, sym, ◌∙◌}
 use Rattle.std.proofs.lemmas.List.{nil_from_length}
-use Rattle.deck.specs.Tables.{table}
+use Rattle.deck.specs.Tables.{table_of_deck}
 use Rattle.value_sources.specs.Rows.{first_mentions}
-use Rattle.value_sources.specs.StoredMentions.{placed_list}
-use Rattle.value_sources.proofs.Walking.{underway_end}
+use Rattle.value_sources.specs.StoredMentions.{placed_mention_list}
+use Rattle.value_sources.proofs.Walking.{source_rows_underway_end}
 use Rattle.value_sources.proofs.WalkSteps.{walk_skipped, walk_visited}
 use Rattle.value_sources.proofs.walk.Walk.next.Goals as goal
 
@@ -11,8 +11,9 @@ pub returns-in_default : goal.returns-in_default
 returns-in_default c words rows h =
     let d = c.args.deck.now in
     let pending = c.args.self.now.pending in
-    underway_end d (first_mentions (table d) words) rows (placed_list d pending.items)
-    (ap (placed_list d) (nil_from_length pending.items (sym pending.ok.0 ∙ c.in_default.ensures.cases.0))) h.underway
+    source_rows_underway_end d (first_mentions (table_of_deck d) words) rows (placed_mention_list d pending.items)
+    (ap (placed_mention_list d) (nil_from_length pending.items (sym pending.ok.0 ∙ c.in_default.ensures.cases.0)))
+    h.underway
 
 pub returns-in_default-unvisited_place : goal.returns-in_default-unvisited_place
 returns-in_default-unvisited_place c words rows h =

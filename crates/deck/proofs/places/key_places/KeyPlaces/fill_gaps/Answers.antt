@@ -1,8 +1,8 @@
 use Rattle.std.proofs.Common.{◌≡◌, map, option_map}
-use Rattle.gap_list.specs.Gaps.{place_without}
+use Rattle.gap_list.specs.Gaps.{place_without_gaps}
 use Rattle.def_entry.specs.declared.key.Kind.{Kind}
 use Rattle.def_entry.specs.declared.key.Kind.TheVariants as kind
-use Rattle.deck.specs.LastPlaces.{kind_places}
+use Rattle.deck.specs.LastPlaces.{definition_places_of_kind}
 use Rattle.deck.specs.declared.places.key_places.KeyPlaces.{KeyPlaces}
 use Rattle.deck.proofs.places.key_places.KeyPlaces.fill_gaps.Goals as goal
 
@@ -17,7 +17,8 @@ returns c = by
       lists = c.fill_gaps-4.new.self;
     }
 
-    by : (k : Kind) → kind_places now k ≡ map (option_map (place_without c.args.gaps.now)) (kind_places c.args.self.now k)
+    by : (k : Kind) → definition_places_of_kind now k ≡ map (option_map (place_without_gaps c.args.gaps.now))
+        (definition_places_of_kind c.args.self.now k)
     by kind.Unit = c.fill_gaps.ensures
     by kind.Prefix = c.fill_gaps-2.ensures
     by kind.Func = c.fill_gaps-3.ensures

@@ -1,6 +1,6 @@
 use Rattle.std.proofs.Common.{◌++◌, drop, length, map, option_map, take, arith, ap, sym, ◌∙◌}
 use Rattle.gap_list.specs.Gaps.{without_gap}
-use Rattle.deck.proofs.KindPlacing.{length-moved, mapped_all, moved_place}
+use Rattle.deck.proofs.KindPlacing.{length-moved, mapped_definition_places_all, moved_place}
 use Rattle.deck.proofs.places.kind_places.KindPlaces.close_gap.Goals as goal
 
 pub restore-requires : goal.restore-requires
@@ -23,5 +23,5 @@ loop-number-preserved c =
 pub returns : goal.returns
 returns c =
     c.loop-number.invariant
-    ∙ mapped_all (option_map (without_gap c.args.gap)) c.args.self.now c.loop-number.number
+    ∙ mapped_definition_places_all (option_map (without_gap c.args.gap)) c.args.self.now c.loop-number.number
     (omega (arith, c.loop-number-test.false, c.len-number-end.ensures))

@@ -1,20 +1,21 @@
 use Rattle.std.proofs.Common.{◌≡◌, ◌<◌, ◌≤◌, ◌+◌, ◌-◌, ℕ, List, Bool, true, false, cond, get_or, set, length, sym, ap}
 use Rattle.std.proofs.Common.{◌∙◌, arith, Option, None}
 use Rattle.std.specs.Option.{is_some}
-use Rattle.deck.specs.KindPlaces.{place_count}
+use Rattle.deck.specs.KindPlaces.{definition_place_count}
 use Rattle.deck.specs.declared.places.kind_places.KindPlaces.TheInside.{Inside}
-use Rattle.deck.proofs.KindPlacing.{count_none, in_index}
+use Rattle.deck.proofs.KindPlacing.{definition_place_count_none, definition_place_in_index}
 use Rattle.deck.proofs.places.kind_places.KindPlaces.forget.Goals as goal
 use Rattle.deck.proofs.places.kind_places.KindPlaces.forget.Goals.{then-is_some, else-is_some}
 
 -- the count before exceeds the count after by one if the number had a place, and otherwise equals it
 before : (n number : ℕ) (ps : List (Option ℕ)) (o : Option ℕ) → number < length ps → o ≡ get_or ps number o
-    → n ≡ place_count ps →
-    n ≡ cond (is_some o) (place_count (set ps number None) + 1) (place_count (set ps number None))
+    → n ≡ definition_place_count ps →
+    n ≡ cond (is_some o) (definition_place_count (set ps number None) + 1) (definition_place_count (set ps number None))
 before n number ps o h e f =
-    f ∙ count_none ps number h
-    ∙ ap (λ x. cond (is_some x) (place_count (set ps number None) + 1) (place_count (set ps number None)))
-    (in_index ps number o h e)
+    f ∙ definition_place_count_none ps number h
+    ∙ ap (λ x. cond (is_some x) (definition_place_count (set ps number None) + 1)
+    (definition_place_count (set ps number None)))
+    (definition_place_in_index ps number o h e)
 
 one_there : (n c : ℕ) (b : Bool) → n ≡ cond b (c + 1) c → b ≡ true → 1 ≤ n
 one_there n c true e h = omega (arith, e)
@@ -44,10 +45,10 @@ invariant_of-self c =
           one_less c.self.inside.count c.if-is_some.self-inside.count _ _ is
           (ap (λ (s : Inside). s.count) w.self-inside-is
           ∙ ap (λ b. cond b (c.self.inside.count - 1) c.self.inside.count) w.if-is_some.ensures)
-          ∙ ap (λ (s : Inside). place_count (set s.places.items c.args.number None)) (sym w.self-inside-is)
+          ∙ ap (λ (s : Inside). definition_place_count (set s.places.items c.args.number None)) (sym w.self-inside-is)
       | else-is_some w ↦
           one_less c.self.inside.count c.if-is_some.self-inside.count _ _ is
           (ap (λ (s : Inside). s.count) w.self-inside-is
           ∙ ap (λ b. cond b (c.self.inside.count - 1) c.self.inside.count) w.if-is_some.ensures)
-          ∙ ap (λ (s : Inside). place_count (set s.places.items c.args.number None)) (sym w.self-inside-is)
+          ∙ ap (λ (s : Inside). definition_place_count (set s.places.items c.args.number None)) (sym w.self-inside-is)
     ]

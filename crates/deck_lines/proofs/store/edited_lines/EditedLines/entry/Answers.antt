@@ -1,5 +1,5 @@
-use Rattle.deck_lines.specs.Stores.{definition_at}
-use Rattle.deck_lines.proofs.Entries.{is_there, none_there, said_there}
+use Rattle.deck_lines.specs.Stores.{store_definition_at}
+use Rattle.deck_lines.proofs.Entries.{is_there, no_entry_without_store_definition, said_there}
 use Rattle.deck_lines.proofs.store.edited_lines.EditedLines.entry.Goals as goal
 
 pub line-requires : goal.line-requires
@@ -13,4 +13,5 @@ returns-in-Some c =
     c.line.ensures
 
 pub returns-in-None : goal.returns-in-None
-returns-in-None c = none_there (definition_at c.args.self.now.new_lines c.args.place) c.in-None.ensures.is
+returns-in-None c = no_entry_without_store_definition (store_definition_at c.args.self.now.new_lines c.args.place)
+    c.in-None.ensures.is

@@ -1,15 +1,16 @@
 use Rattle.std.proofs.Common.{◌≡◌, length, take, drop, ap, ◌∙◌, arith}
-use Rattle.deck_lines.specs.Limits.{text_len}
-use Rattle.deck_lines.proofs.MarkLimits.{marks_len}
-use Rattle.deck_lines.proofs.MarkReplacement.{put_fits, told_exchanged, told_gone, told_kept, told_small}
+use Rattle.deck_lines.specs.Limits.{stored_text_len}
+use Rattle.deck_lines.proofs.MarkLimits.{store_marks_len}
+use Rattle.deck_lines.proofs.MarkReplacement.{put_lines_fit_store_limit, told_exchanged, told_gone, told_kept}
+use Rattle.deck_lines.proofs.MarkReplacement.{told_small}
 use Rattle.deck_lines.proofs.store.line_list.LineList.exchange.Goals as goal
 
 pub marked_texts_len-len-requires : goal.marked_texts_len-len-requires
 marked_texts_len-len-requires c =
     omega (
       arith,
-      ap text_len c.as_slice.ensures,
-      put_fits c.args.self.now c.args.put c.args.at c.args.cut c.requires.within,
+      ap stored_text_len c.as_slice.ensures,
+      put_lines_fit_store_limit c.args.self.now c.args.put c.args.at c.args.cut c.requires.within,
     )
 
 pub exchange_in_list-requires-clause-places : goal.exchange_in_list-requires-clause-places
@@ -18,7 +19,7 @@ exchange_in_list-requires-clause-places c =
       arith,
       c.requires.places,
       ap length c.self.view_is,
-      marks_len c.self.inside.lines c.self.inside.marks.listed c.self.invariant.mark_count,
+      store_marks_len c.self.inside.lines c.self.inside.marks.listed c.self.invariant.mark_count,
     )
 
 pub overflow_add-self : goal.overflow_add-self
@@ -27,8 +28,8 @@ overflow_add-self c =
       arith,
       c.self.invariant.small,
       c.marked_texts_len-len.ensures,
-      ap text_len c.as_slice.ensures,
-      put_fits c.args.self.now c.args.put c.args.at c.args.cut c.requires.within,
+      ap stored_text_len c.as_slice.ensures,
+      put_lines_fit_store_limit c.args.self.now c.args.put c.args.at c.args.cut c.requires.within,
     )
 
 pub marked_texts_len-requires : goal.marked_texts_len-requires
@@ -39,7 +40,7 @@ marked_texts_len-requires c =
     c.self.view_is c.requires.places c.requires.within _ (c.as_slice-2.ensures ∙ c.in_ok-gone.ensures.gone) in
     omega (
       arith,
-      ap text_len gone,
+      ap stored_text_len gone,
       c.self.invariant.small,
       told_small s.lines s.marks.listed s.bytes c.self.invariant c.args.self.now c.args.put c.args.at c.args.cut
           c.self.view_is c.requires.places c.requires.within,
@@ -54,7 +55,7 @@ overflow_sub-self c =
     omega (
       arith,
       c.marked_texts_len.ensures,
-      ap text_len gone,
+      ap stored_text_len gone,
       told_small s.lines s.marks.listed s.bytes c.self.invariant c.args.self.now c.args.put c.args.at c.args.cut
           c.self.view_is c.requires.places c.requires.within,
     )
@@ -65,7 +66,7 @@ invariant_of-self-2 c =
     told_kept s.lines s.marks.listed s.bytes c.self.invariant c.args.self.now c.args.put c.args.at c.args.cut
     c.self.view_is c.requires.places c.requires.within _ _ c.marked_texts_len-len.result c.marked_texts_len.result
     c.as_slice-2.result.now c.in_ok-gone.ensures.ok.0 c.in_ok-gone.ensures.ok.1
-    (c.marked_texts_len-len.ensures ∙ ap text_len c.as_slice.ensures)
+    (c.marked_texts_len-len.ensures ∙ ap stored_text_len c.as_slice.ensures)
     (c.as_slice-2.ensures ∙ c.in_ok-gone.ensures.gone) c.marked_texts_len.ensures
 
 pub returns-clause-ok : goal.returns-clause-ok

@@ -1,10 +1,10 @@
 use Rattle.std.proofs.Common.{◌<◌, List, arith, ap, length, map, subst, ◌∙◌}
 use Rattle.std.proofs.lemmas.List.{take_all}
-use Rattle.deck_lines.specs.Loads.{with_definitions}
-use Rattle.deck_lines.specs.Names.{no_names}
-use Rattle.deck_lines.specs.NumberedKeys.{names_in}
-use Rattle.deck_lines.specs.Readings.{entry_in}
-use Rattle.deck_lines.specs.Renumberings.{AreNumbers}
+use Rattle.deck_lines.specs.Loads.{key_numbers_by_definitions}
+use Rattle.deck_lines.specs.Names.{no_key_number_names}
+use Rattle.deck_lines.specs.NumberedKeys.{key_number_names_in}
+use Rattle.deck_lines.specs.Readings.{entry_in_store_line}
+use Rattle.deck_lines.specs.Renumberings.{AreKeyNumbersOfLines}
 use Rattle.deck_lines.specs.declared.line.DeckLine.{DeckLine}
 use Rattle.deck_lines.proofs.RenumberedKeys.{names_more, numbers_more, unique_more}
 use Rattle.deck_lines.proofs.store.new_key_numbers.Renumbering.of_store.Goals as goal
@@ -13,8 +13,8 @@ pub loop-place-preserved : goal.loop-place-preserved
 loop-place-preserved c =
     let lines = c.args.store.now.lines in
     let i = c.loop-place.place in
-    let was = names_in c.loop-place.keys in
-    let now = names_in c.number_line.new.keys in
+    let was = key_number_names_in c.loop-place.keys in
+    let now = key_number_names_in c.number_line.new.keys in
     let inside : i < length lines = omega (arith, c.loop-place-test.true, c.len-place-end.ensures.count) in
     record {
       names = names_more was now lines i inside c.in_ok-number.ensures.names c.loop-place.invariant.names;
@@ -30,9 +30,10 @@ returns c =
     let all = take_all c.loop-place.place lines
     (omega (arith, c.loop-place-test.false, c.len-place-end.ensures.count)) in
     record {
-      names = c.loop-place.invariant.names ∙ ap (with_definitions no_names) all;
+      names = c.loop-place.invariant.names ∙ ap (key_numbers_by_definitions no_key_number_names) all;
       definition_numbers =
-          subst (λ ls. AreNumbers (names_in c.loop-place.keys) c.loop-place.of_lines.items (map entry_in ls)) all
+          subst (λ ls. AreKeyNumbersOfLines (key_number_names_in c.loop-place.keys) c.loop-place.of_lines.items
+          (map entry_in_store_line ls)) all
           c.loop-place.invariant.each;
       unique = c.loop-place.invariant.unique;
     }

@@ -1,5 +1,5 @@
 use Rattle.std.proofs.Common.{◌≡◌, ◌≤◌, arith, length, length-take}
-use Rattle.units_io.proofs.Growing.{drop-taken}
+use Rattle.units_io.proofs.Growing.{drop-source_bytes_taken}
 use Rattle.units_io.proofs.memory.source.MemSourceSource.take.Goals as goal
 
 pub returns-clause-bytes : goal.returns-clause-bytes
@@ -8,4 +8,4 @@ returns-clause-bytes c =
     let long : length c.copy_from_slice.new.self ≡ c.min-n.result =
     omega (arith, simp length-take at c.copy_from_slice.ensures.len) in
     rw (← c.self.view_is)
-    (drop-taken _ _ _ _ _ _ _ (omega arith) long c.deref-2.ensures.value c.copy_from_slice.ensures.after)
+    (drop-source_bytes_taken _ _ _ _ _ _ _ (omega arith) long c.deref-2.ensures.value c.copy_from_slice.ensures.after)
