@@ -3,11 +3,11 @@
 
     bench/scaling.sh [--program PROGRAM] [ROW..]
 
-Each row is run at three sizes. A line for each size has the size, the processor time and the peak memory; then a line
-has the exponents between the larger two: 1 is linear, 2 quadratic. The cost of the smallest input is subtracted, so that
-the start of the program does not hide the growth. A row with an easier input of the same size has the ratio of the
-times, which may be at most 2. A row ends in `ok` or `over`, according to its bounds. By default all rows are run, which
-takes some minutes.
+Each row is run at three sizes, three times each. A line for each size has the size, the least processor time and the
+least peak memory; then a line has the exponents between the larger two: 1 is linear, 2 quadratic. The cost of the
+smallest input is subtracted, so that the start of the program does not hide the growth. A row with an easier input of
+the same size has the ratio of the times, which may be at most 2. A row ends in `ok` or `over`, according to its
+bounds. By default all rows are run, which takes some minutes.
 """
 
 from __future__ import annotations
@@ -28,6 +28,7 @@ from string import ascii_lowercase
 ROOT = Path(__file__).resolve().parent.parent
 LINEAR = 1.2
 MOST_TIMES = 2
+REPEATS = 3
 
 
 @dataclass(frozen=True)
@@ -247,9 +248,14 @@ ROWS = [
 
 
 def cost_of(program: str, row: Row, size: int, folder: Path) -> Cost:
+    """The least cost of some runs of a size, since other programs can only add to it."""
+    costs = [cost_of_run(program, row.make(size), folder) for _ in range(REPEATS)]
+    return Cost(min(cost.seconds for cost in costs), min(cost.bytes for cost in costs))
+
+
+def cost_of_run(program: str, run: Run, folder: Path) -> Cost:
     """The cost of a run. GNU time starts the program: the peak memory of a process counts from its fork, so a child of
     this interpreter would have the peak of the interpreter."""
-    run = row.make(size)
     words = list(run.words)
     if run.definitions is not None:
         (folder / "definitions.units").write_text(run.definitions)
