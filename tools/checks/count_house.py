@@ -26,7 +26,7 @@ CRATES = ROOT / "crates"
 MOST_ARGUMENTS = 5
 REPEATED = 10
 FUNCTION = re.compile(r"^ *(?:pub(?:\(crate\))? )?(?:const )?fn (\w+)(?:<[^>]*>)?\(", re.MULTILINE)
-CLAUSE = re.compile(r"^ *((?:ensures|requires) .*)$", re.MULTILINE)
+CLAUSE = re.compile(r"^ *((?:ensures|requires) [^{]*\{ .*? \})[;,]?$", re.MULTILINE | re.DOTALL)
 LEMMA = re.compile(r"^(?:pub )?([a-z][^\s:({.]*) :", re.MULTILINE)
 CITATION = re.compile(r"^(?:ghost )?(?:pub )?use Rattle\.(\w+)\.proofs\.([\w.]+?)(?:\.\{([^}]*)\}|[ ;]|$)", re.MULTILINE)
 LAW = re.compile(r"^pub ([^\s:({.]*) : \w*Law$", re.MULTILINE)
@@ -84,7 +84,7 @@ def arguments() -> Iterator[str]:
 
 
 def clauses() -> Iterator[str]:
-    counts = Counter(clause for _, _, text in product_files("src", ".rt") for clause in CLAUSE.findall(text))
+    counts = Counter(" ".join(clause.split()) for _, _, text in product_files("src", ".rt") for clause in CLAUSE.findall(text))
     for clause, count in counts.most_common():
         if count >= REPEATED:
             yield f"{count} times: {clause}"
