@@ -5,9 +5,10 @@
     tools/checks/count_house.py COUNT..     prints the places of these counts
 
 The counts: lines (by kind), arguments (functions with more than five besides self), clauses (those that ten functions
-or more have), names (words that two crates define), participles (functions and definitions named by a single
-participle), citations (imports of another crate's proofs that cite more than its laws), unused (lemmas that no file
-names). Test programs (`test_*`, `run_faults`) count only in `lines`. `general_lemmas` is there to be cited.
+or more have), names (definitions of two crates with one name, operators aside), participles (functions and definitions
+named by a single participle), citations (imports of another crate's proofs that cite more than its laws), unused
+(lemmas that no file names). Test programs (`test_*`, `run_faults`) count only in `lines`. `general_lemmas` is there to
+be cited.
 """
 
 from __future__ import annotations
@@ -94,10 +95,10 @@ def names() -> Iterator[str]:
     crates = defaultdict(set)
     for crate, _, text in product_files("specs", ".antt"):
         for line in text.splitlines():
-            if match := HEAD.match(line.strip()):
+            if (match := HEAD.match(line)) and match[2] not in ("mod", "use"):
                 crates[match[2]].add(crate)
     for word, at in sorted(crates.items()):
-        if len(at) > 1 and word != "◌":
+        if len(at) > 1 and "◌" not in word:
             yield f"{word}: {', '.join(sorted(at))}"
 
 
