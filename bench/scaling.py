@@ -7,7 +7,9 @@ Each row is run at three sizes, three times each. A line for each size has the s
 least peak memory; then a line has the exponents between the larger two: 1 is linear, 2 quadratic. The cost of the
 smallest input is subtracted, so that the start of the program does not hide the growth. A row with an easier input of
 the same size has the ratio of the times, which may be at most 2. A row ends in `ok` or `over`, according to its
-bounds. By default all rows are run, which takes some minutes.
+bounds. If the time of a row grows faster than its bound, valgrind counts the instructions of both sizes, and their
+exponent decides: time also grows when data leaves a cache, and with what else the machine does. By default all rows are
+run, which takes some minutes.
 """
 
 from __future__ import annotations
@@ -16,7 +18,9 @@ import argparse
 import math
 import os
 import random
+import re
 import resource
+import shutil
 import subprocess
 import sys
 import tempfile
@@ -247,6 +251,35 @@ ROWS = [
 ]
 
 
+def words_of(run: Run, folder: Path) -> list[str]:
+    """Writes the files of a run, and returns its words."""
+    words = list(run.words)
+    if run.definitions is not None:
+        (folder / "definitions.units").write_text(run.definitions)
+        words[:0] = ["-f", str(folder / "definitions.units")]
+    (folder / "input").write_text(run.input)
+    return words
+
+
+def instructions_of(program: str, run: Run, folder: Path) -> int:
+    """The number of instructions of a run, counted by valgrind."""
+    words = words_of(run, folder)
+    log = folder / "instructions"
+    command = [shutil.which("valgrind"), "--tool=cachegrind", "--cache-sim=no", "--cachegrind-out-file=/dev/null"]
+    with open(folder / "input", "rb") as source, open(os.devnull, "wb") as sink:
+        subprocess.run(
+            [*command, f"--log-file={log}", program, *words],
+            stdin=source, stdout=sink, stderr=sink, env=run.variables, check=False,
+        )
+    return int(re.search(r"I +refs: +([\d,]+)", log.read_text())[1].replace(",", ""))
+
+
+def exponent_of_instructions(program: str, row: Row, folder: Path) -> float:
+    """The exponent of a row by its instructions. Those of the smallest input are subtracted."""
+    base, *counts = (instructions_of(program, row.make(size), folder) for size in (row.base, *row.sizes[1:]))
+    return exponent(counts[0] - base, counts[1] - base)
+
+
 def cost_of(program: str, row: Row, size: int, folder: Path) -> Cost:
     """The least cost of some runs of a size, since other programs can only add to it."""
     costs = [cost_of_run(program, row.make(size), folder) for _ in range(REPEATS)]
@@ -256,11 +289,7 @@ def cost_of(program: str, row: Row, size: int, folder: Path) -> Cost:
 def cost_of_run(program: str, run: Run, folder: Path) -> Cost:
     """The cost of a run. GNU time starts the program: the peak memory of a process counts from its fork, so a child of
     this interpreter would have the peak of the interpreter."""
-    words = list(run.words)
-    if run.definitions is not None:
-        (folder / "definitions.units").write_text(run.definitions)
-        words[:0] = ["-f", str(folder / "definitions.units")]
-    (folder / "input").write_text(run.input)
+    words = words_of(run, folder)
     peak = folder / "peak"
     with open(folder / "input", "rb") as source, open(os.devnull, "wb") as sink:
         command = ["/usr/bin/time", "--quiet", "--format=%M", f"--output={peak}", program, *words]
@@ -291,16 +320,20 @@ def measure(program: str, row: Row, folder: Path) -> bool:
     # A few milliseconds or megabytes show no exponent.
     is_quick = time <= row.time or costs[2].seconds < 0.03
     is_small = memory <= row.memory or costs[2].bytes - bases[2].bytes < 4e6
+    comparison = ""
+    if not is_quick and row.start is None and shutil.which("valgrind"):
+        instructions = exponent_of_instructions(program, row, folder)
+        is_quick = instructions <= row.time
+        comparison = f", instructions {instructions:.2f}"
     is_within = is_quick and is_small
     print(f"{row.name}:")
     for size, cost in zip(row.sizes, costs):
         print(f"  {size:>8,}  {cost.seconds:8.3f} s  {cost.bytes / 1e6:8.1f} MB")
-    comparison = ""
     if row.easier is not None:
         easier = cost_of(program, replace(row, make=row.easier), row.sizes[2], folder)
         times = net[2].seconds / max(easier.seconds - bases[2].seconds, 0.001)
         is_within = is_within and times <= MOST_TIMES
-        comparison = f", {times:.1f} times the easier input"
+        comparison += f", {times:.1f} times the easier input"
     verdict = "ok" if is_within else "over"
     print(f"  exponents: time {time:.2f}, memory {memory:.2f}{comparison}: {verdict}", flush=True)
     return is_within
