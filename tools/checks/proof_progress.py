@@ -15,6 +15,7 @@ from typing import TypeVar
 
 T = TypeVar("T")
 PERIOD = 60.0  # seconds between two lines of progress
+PROOF_BYTES = 4 << 30  # more than the memory of any proof
 PROVED = re.compile(r"rt: (\w+)(: its tests)? (?:proved|is kept: .*)")
 # The lines of rt to show; the rest is one line for each function.
 SUMMARY = re.compile(r"rt: |error|\d+ passed, ")
@@ -57,23 +58,28 @@ def is_descendant(process: str, ancestor: int) -> bool:
 
 
 def work_below(ancestor: int) -> list[str]:
-    """The crates, tests and edits on which the provers started by a process are working."""
+    """The crates and tests on which the provers started by a process are working."""
     names = set()
     for process in filter(str.isdigit, os.listdir("/proc")):
         try:
             words = Path("/proc", process, "cmdline").read_bytes().decode(errors="replace").split("\0")
             if not words[0].endswith("/rattle") or "--crate-name" not in words or not is_descendant(process, ancestor):
                 continue
-            folder = os.readlink(f"/proc/{process}/cwd")
         except OSError:
             continue
         name = words[words.index("--crate-name") + 1]
-        if "rt-edit-" in folder:
-            name += " (an edit)"
-        elif "--test" in words:
+        if "--test" in words:
             name += " (tests)"
         names.add(name)
     return sorted(names)
+
+
+def environment() -> dict[str, str]:
+    """The variables of `rt ci`. RT_JOBS, unless it is set, gives each proof one process: if rt divides a proof among
+    three, it ends sooner, but takes twice the processor time."""
+    memory = os.sysconf("SC_AVPHYS_PAGES") * os.sysconf("SC_PAGE_SIZE")
+    jobs = max(1, min(len(os.sched_getaffinity(0)), memory // PROOF_BYTES))
+    return {"RT_JOBS": str(jobs), **os.environ}
 
 
 def show_periodically(progress: Progress, process: int, end: threading.Event) -> None:
@@ -87,10 +93,11 @@ def prove(root: Path, crates: list[str], result_of: Callable[[str, int], T]) -> 
     (root / "out").mkdir(exist_ok=True)
     log = root / "out/rt-ci.log"
     progress = Progress(number_of_crates(root))
-    print(f"== proofs, tests, edits and runs (the whole output: {log.relative_to(root)})", flush=True)
+    print(f"== proofs, tests and runs (the whole output: {log.relative_to(root)})", flush=True)
     try:
         process = subprocess.Popen(
-            ["rt", "ci", *crates], cwd=root, stdin=subprocess.DEVNULL, stdout=subprocess.PIPE, stderr=subprocess.STDOUT
+            ["rt", "ci", *crates], cwd=root, env=environment(),
+            stdin=subprocess.DEVNULL, stdout=subprocess.PIPE, stderr=subprocess.STDOUT,
         )
     except OSError as fault:
         print(f"rt ci: {fault}")

@@ -2,7 +2,7 @@
 """Runs the checks of the repository and adds up how many cases passed, failed and were skipped.
 
     bin/check [CRATE..]    the checks that need no proof; then `rt ci CRATE..`, if crates are named
-    bin/test               the gate: every proof, test and must-fail edit, then the checks, with the programs built
+    bin/test               the gate: every proof and test, the must-fail edits, then the checks, with the programs built
 
 Each check is a command whose last line is `N passed, M failed` or `N passed, M failed, K skipped`. A check that ends
 with another line, or whose status disagrees with that line, counts as one more failure. The last line has the sums, and
@@ -75,8 +75,9 @@ QUICK = [
     Check("record of tests", ("tools/checks/tested.py",)),
     Check("record of measurements", ("bench/record.py", "--check")),
 ]
+# These need all processors.
+ALONE = [Check("must-fail edits", ("tools/checks/check_must_fail.py",))]
 AFTER_PROOFS = [
-    Check("refusals of must-fail edits", ("tools/checks/check_refusals.py",)),
     Check("C library", ("tools/checks/check_c_library.sh",)),
     Check("want of memory", ("tools/checks/check_memory.sh",)),
     Check("want of memory in edits", ("tools/checks/check_edits.py",)),
@@ -153,8 +154,10 @@ def check_all() -> tuple[Result, list[str]]:
     total = prove(ROOT, [], result_of_proofs)
     failures = ["proofs"] if total.failed else []
     checks = quick_checks() + [check for check in AFTER_PROOFS if check.exists()]
-    result, names = run_all(checks, WORKERS)
-    return total + result, failures + names
+    for group, workers in ((ALONE, 1), (checks, WORKERS)):
+        result, names = run_all(group, workers)
+        total, failures = total + result, failures + names
+    return total, failures
 
 
 def result_of_proofs(last: str, status: int) -> Result:
