@@ -3,14 +3,13 @@
 
     tools/comparisons/compare_edges.py [CALLS] [SEED]
 
-makes CALLS calls (10000 where none is given) over a few nodes from the SEED (1 where none is
-given), has the program of crates/test_decks answer them, and compares each answer with that of a
-list which is searched whole. It prints the first differences and a line with the counts, and ends
-with status 1 if there is a difference.
+The program of crates/test_decks answers CALLS calls (10,000 by default) over a few nodes from SEED (1 by default).
+Each answer is compared with that of a list that is searched whole. Prints the first differences and a line with the
+counts. The status is 1 if there is a difference.
 
     tools/comparisons/compare_edges.py --answer < CALLS
 
-answers calls by the list; the users of a key are in the order of their numbers.
+Answers calls by the list. The users of a key are in the order of their numbers.
 """
 
 import random

@@ -3,21 +3,21 @@
 
     tools/comparisons/compare_live.py [TABLES] [SEED]
 
-makes TABLES tables (400 by default) from the SEED (1 by default), with cycles,
-prefixes, plurals, functions, aliases, tables of points and lists, has the program of
-crates/test_tables answer queries of each, and then queries with edits between them, and compares each answer, and
-the counts after each query and edit. Then it does the same with a ring of 20,000 names and with a chain of 60,000.
+The program of crates/test_tables answers queries of TABLES tables (400 by default) from SEED (1 by default), with
+cycles, prefixes, plurals, functions, aliases, tables of points and lists; then queries with edits between them. Each
+answer and the counts after each query and edit are compared with those of the recursion. Then a ring of 20,000 names
+and a chain of 60,000 are compared in the same way.
 
     tools/comparisons/compare_live.py --definitions FILE
 
-queries each name of a file, in a random order, and compares the answers.
+Queries each name of a file, in a random order, and compares the answers.
 
     tools/comparisons/compare_live.py --answer < CALLS
 
-answers calls, edits among them, by recursion, with the files of the current folder.
+Answers calls, edits among them, by recursion, with the files of the current folder.
 
-Decks are those of plain_decks.py, and values those of plain_tables.py. Each query follows every
-path from its names to find faults and reachable names; in large tables it visits each name once.
+Decks are those of plain_decks.py, and values those of plain_tables.py. Each query follows every path from its names to
+find faults and reachable names; in large tables it visits each name once.
 """
 
 import itertools

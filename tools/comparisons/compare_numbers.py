@@ -3,10 +3,9 @@
 
     tools/comparisons/compare_numbers.py [CALLS] [SEED]
 
-makes CALLS calls of each kind (100000 where none is given) from the SEED (1 where none is
-given), near the limits of the libraries, has the program of crates/test_values answer them, and
-compares each answer with the one that Python's int, Fraction and Decimal give. It prints a line
-for each kind and the first differences, and ends with status 1 if there is a difference.
+The program of crates/test_values answers CALLS calls of each kind (100,000 by default) from SEED (1 by default), near
+the limits of the libraries. Each answer is compared with the one that Python's int, Fraction and Decimal give. Prints
+a line for each kind and the first differences. The status is 1 if there is a difference.
 """
 
 import math

@@ -3,26 +3,25 @@
 
     tools/comparisons/compare_reports.py [TABLES] [SEED]
 
-makes TABLES tables (400 where none is given) from the SEED (1 where none is given), with lists of
-parts that are unlike or not above 0, has the program of crates/test_tables check each, search it
-for each byte of its names and for other texts, and say what conforms to random expressions, and
-compares the answers.
+The program of crates/test_tables checks TABLES tables (400 by default) from SEED (1 by default), with lists of parts
+that are unlike or not above 0, searches each for every byte of its names and for other texts, and lists the units that
+conform to random expressions. Each answer is compared with that of the recursion.
 
     tools/comparisons/compare_reports.py --definitions FILE
 
-does the same with the definitions of a file.
+Does the same with the definitions of a file.
 
     tools/comparisons/compare_reports.py --answer < CALLS
 
-answers calls by recursion, with the files of the current folder.
+Answers calls by recursion, with the files of the current folder.
 
     tools/comparisons/compare_reports.py --prefixes FILE
 
-prints the report of a check of each prefix of a file, the shortest first, which is saved as `p.units`: its notices,
-the faults of its keys, and a line with the status.
+Saves each prefix of a file as `p.units`, the shortest first, and prints the report of its check: its notices, the
+faults of its keys, and a line with the status.
 
-Tables and their faults are those of plain_live.py. A prefix has a fault if its own entry has one.
-All numbers are exact.
+Tables and their faults are those of plain_live.py. A prefix has a fault if its own entry has one. All numbers are
+exact.
 """
 
 import os

@@ -3,11 +3,10 @@
 
     tools/comparisons/compare_trees.py [LONGEST] [RANDOM] [SEED]
 
-writes all token lists up to the length LONGEST (5 by default), and RANDOM longer ones
-(200000 where none is given) from the SEED (1 where none is given), has the program of
-crates/test_values parse them, and compares each tree or fault with the one that the rules of
-tools/models/plain_trees.py give. It prints a line for each kind of list and the first
-differences, and ends with status 1 if there is a difference.
+The program of crates/test_values parses all token lists up to the length LONGEST (5 by default), and RANDOM longer
+ones (200,000 by default) from SEED (1 by default). Each tree or fault is compared with the one that the rules of
+tools/models/plain_trees.py give. Prints a line for each kind of list and the first differences. The status is 1 if
+there is a difference.
 """
 
 import itertools
