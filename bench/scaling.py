@@ -3,12 +3,13 @@
 
     bench/scaling.sh [--program PROGRAM] [ROW..]
 
-Each row is run at three sizes, seven times each. A line for each size has the size, the least processor time and the
-least peak memory; then a line has the exponents between the larger two: 1 is linear, 2 quadratic. The cost of the
+Each row is run at three sizes in turns, seven times each. A line for each size has the size, the least processor time
+and the least peak memory; then a line has the exponents between the larger two: 1 is linear, 2 quadratic. The cost of the
 smallest input is subtracted, so that the start of the program does not hide the growth. A row with an easier input of
-the same size has the ratio of the times, which may be at most 2. In one row, which is marked in the list below, valgrind
-counts instructions, and their exponent is bounded instead of that of the time. A row ends in `ok` or `over`, according
-to its bounds. By default all rows are run, which takes some minutes. Run it on an idle machine.
+the same size has the ratio of the times, which may be at most 2. A row ends in `ok` or `over`, according to its
+bounds. If the time of a row grows faster than its bound, valgrind counts the instructions of both sizes, and their
+exponent decides: time also grows when data leaves a cache, and with what else the machine does. By default all rows are
+run, which takes some minutes.
 """
 
 from __future__ import annotations
@@ -23,8 +24,8 @@ import shutil
 import subprocess
 import sys
 import tempfile
-from collections.abc import Callable
-from dataclasses import dataclass, field, replace
+from collections.abc import Callable, Sequence
+from dataclasses import dataclass, field
 from pathlib import Path
 from string import ascii_lowercase
 
@@ -49,8 +50,7 @@ class Row:
     """A row: a function that makes the run of a size, the sizes, and the largest exponents allowed.
 
     The cost of a run of the size `base` is subtracted, or that of `start` for the same size if the start grows too. If
-    there is an easier input, the largest size may take at most twice its time. If `counts_instructions`, the bound on
-    the time is one on the instructions.
+    there is an easier input, the largest size may take at most twice its time.
     """
 
     name: str
@@ -61,7 +61,6 @@ class Row:
     base: int = 1
     start: Callable[[int], Run] | None = None
     easier: Callable[[int], Run] | None = None
-    counts_instructions: bool = False
 
 
 @dataclass(frozen=True)
@@ -221,8 +220,7 @@ ROWS = [
     Row("define and drop", definitions_and_drops, (20000, 40000, 80000)),
     Row("1,000 locales after undone definitions", locales_after_dead_names, (12500, 25000, 50000)),
     Row("drops over a deck of that size", drops, (4000, 8000, 16000)),
-    # Each drop reads lines that have left the cache, so the time grows faster than the work.
-    Row("drops in random order", drops_in_random_order, (4000, 8000, 16000), counts_instructions=True),
+    Row("drops in random order", drops_in_random_order, (4000, 8000, 16000)),
     Row("drops of second lines, the last first", drops_of_second_lines, (4000, 8000, 16000)),
     Row("sets of distinct variables", distinct_variables, (1000, 2000, 4000)),
     Row(
@@ -282,10 +280,15 @@ def exponent_of_instructions(program: str, row: Row, folder: Path) -> float:
     return exponent(counts[0] - base, counts[1] - base)
 
 
-def cost_of(program: str, row: Row, size: int, folder: Path) -> Cost:
-    """The least cost of some runs of a size, since other programs can only add to it."""
-    costs = [cost_of_run(program, row.make(size), folder) for _ in range(REPEATS)]
+def least(costs: list[Cost]) -> Cost:
+    """The least of some costs, since other programs can only add to them."""
     return Cost(min(cost.seconds for cost in costs), min(cost.bytes for cost in costs))
+
+
+def costs_of(program: str, make: Callable[[int], Run], sizes: Sequence[int], folder: Path) -> list[Cost]:
+    """The least cost of each size. The sizes take turns, since the processor may be slower for a while."""
+    turns = [[cost_of_run(program, make(size), folder) for size in sizes] for _ in range(REPEATS)]
+    return [least(list(costs)) for costs in zip(*turns)]
 
 
 def cost_of_run(program: str, run: Run, folder: Path) -> Cost:
@@ -309,10 +312,10 @@ def exponent(smaller: float, larger: float) -> float:
 def measure(program: str, row: Row, folder: Path) -> bool:
     """Prints the lines of a row, and returns whether it is within its bounds."""
     if row.start is None:
-        bases = [cost_of(program, row, row.base, folder)] * len(row.sizes)
+        bases = costs_of(program, row.make, [row.base], folder) * len(row.sizes)
     else:
-        bases = [cost_of(program, replace(row, make=row.start), size, folder) for size in row.sizes]
-    costs = [cost_of(program, row, size, folder) for size in row.sizes]
+        bases = costs_of(program, row.start, row.sizes, folder)
+    costs = costs_of(program, row.make, row.sizes, folder)
     net = [
         Cost(max(cost.seconds - base.seconds, 0.001), max(cost.bytes - base.bytes, 100_000))
         for cost, base in zip(costs, bases)
@@ -323,7 +326,7 @@ def measure(program: str, row: Row, folder: Path) -> bool:
     is_quick = time <= row.time or costs[2].seconds < 0.03
     is_small = memory <= row.memory or costs[2].bytes - bases[2].bytes < 4e6
     comparison = ""
-    if row.counts_instructions:
+    if not is_quick and row.start is None and shutil.which("valgrind"):
         instructions = exponent_of_instructions(program, row, folder)
         is_quick = instructions <= row.time
         comparison = f", instructions {instructions:.2f}"
@@ -332,7 +335,7 @@ def measure(program: str, row: Row, folder: Path) -> bool:
     for size, cost in zip(row.sizes, costs):
         print(f"  {size:>8,}  {cost.seconds:8.3f} s  {cost.bytes / 1e6:8.1f} MB")
     if row.easier is not None:
-        easier = cost_of(program, replace(row, make=row.easier), row.sizes[2], folder)
+        [easier] = costs_of(program, row.easier, row.sizes[2:], folder)
         times = net[2].seconds / max(easier.seconds - bases[2].seconds, 0.001)
         is_within = is_within and times <= MOST_TIMES
         comparison += f", {times:.1f} times the easier input"

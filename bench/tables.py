@@ -143,6 +143,7 @@ FORMS: dict[str, Callable[[str], str]] = {
     "expressions": long_texts,
     "numbers": python_comparison,
     "quantities": python_comparison,
+    "releases": columns,
     "scaling": growth,
     "sessions": gnu_comparison,
     "startup": startups,
