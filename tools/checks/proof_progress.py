@@ -74,12 +74,30 @@ def work_below(ancestor: int) -> list[str]:
     return sorted(names)
 
 
+def number_in(path: str, pattern: str) -> int | None:
+    """The number in a file of the system, or None without the file or the number."""
+    try:
+        match = re.search(pattern, Path(path).read_text())
+    except OSError:
+        return None
+    return int(match[1]) if match else None
+
+
+def proofs_side_by_side() -> int:
+    """One for each processor, or fewer if the memory is small. A control group may have less of both."""
+    processors = len(os.sched_getaffinity(0))
+    quota, period = (number_in("/sys/fs/cgroup/cpu.max", pattern) for pattern in (r"^(\d+) ", r" (\d+)$"))
+    if quota and period:
+        processors = min(processors, quota // period)
+    memory = 1024 * (number_in("/proc/meminfo", r"MemAvailable:\s+(\d+)") or 0)
+    memory = min(memory, number_in("/sys/fs/cgroup/memory.max", r"^(\d+)$") or memory)
+    return max(1, min(processors, memory // PROOF_BYTES))
+
+
 def environment() -> dict[str, str]:
     """The variables of `rt ci`. RT_JOBS, unless it is set, gives each proof one process: if rt divides a proof among
     three, it ends sooner, but takes twice the processor time."""
-    memory = os.sysconf("SC_AVPHYS_PAGES") * os.sysconf("SC_PAGE_SIZE")
-    jobs = max(1, min(len(os.sched_getaffinity(0)), memory // PROOF_BYTES))
-    return {"RT_JOBS": str(jobs), **os.environ}
+    return {"RT_JOBS": str(proofs_side_by_side()), **os.environ}
 
 
 def show_periodically(progress: Progress, process: int, end: threading.Event) -> None:
