@@ -1,7 +1,7 @@
 #!/usr/bin/env python3
 """Tries the must-fail edits. Each changes the meaning of a function, and the prover has to refuse it.
 
-    tools/checks/check_must_fail.py [EDIT..]
+    tools/checks/check_must_fail.py [--anew] [EDIT..]
 
 EDIT is CRATE/NAME; without it, all edits of tests/must_fail are tried. An edit is applied to a copy of the crate, and
 the prover checks one function of the copy over the libraries that `rt ci` built. tests/must_fail/refused_by.tsv has the
@@ -14,13 +14,18 @@ edit, the function, and the part of the function that has to refuse the edit:
     NAME                            an example of a law
     FILE NAME                       a lemma of proofs/FILE.antt, which its proof cites
 
-`rt ci` tries edits too, if they are in a folder of the crate, but it proves the whole crate once more for them. Without
-the toolchain or the libraries, edits are skipped. A case is an edit; the last line is `N passed, M failed, K skipped`.
+An edit that passed is not tried again until a file that it depends on changes: `~/.cache/units/must_fail` (or below
+XDG_CACHE_HOME) has the checksums. With --anew it is tried in any case. `rt ci` tries edits too, if they are in a folder
+of the crate, but it proves the whole crate once more for them. Without the toolchain or the libraries, edits are
+skipped. A case is an edit; the last line is `N passed, M failed, K skipped`.
 """
 
 from __future__ import annotations
 
+import contextlib
 import csv
+import functools
+import hashlib
 import os
 import shutil
 import subprocess
@@ -37,6 +42,7 @@ ROOT = Path(__file__).resolve().parents[2]
 EDITS = ROOT / "tests/must_fail"
 PARTS = ("src", "specs", "proofs")
 SECONDS = 600
+CACHE = Path(os.environ.get("XDG_CACHE_HOME") or Path.home() / ".cache", "units/must_fail")
 
 
 class BadEdit(Exception):
@@ -100,13 +106,37 @@ def apply_edit(edit: str, copy: Path) -> None:
             file.write_text(source.replace(old, text))
 
 
+def sources_of(crate: str) -> list[Path]:
+    folder = ROOT / "crates" / crate
+    return sorted(path for part in PARTS for path in (folder / part).rglob("*") if path.is_file())
+
+
 def library_of(crate: str) -> Path:
     """The folder of a built library, if it is newer than its sources."""
     library = ROOT / f"crates/{crate}/out/rlib/{crate}.rlib"
-    sources = (path for part in PARTS for path in (ROOT / "crates" / crate / part).rglob("*") if path.is_file())
-    if not library.exists() or max(path.stat().st_mtime for path in sources) > library.stat().st_mtime:
+    if not library.exists() or max(path.stat().st_mtime for path in sources_of(crate)) > library.stat().st_mtime:
         raise NotTried(f"the library {crate} is not built")
     return library
+
+
+@functools.lru_cache(maxsize=None)
+def checksum_of_files(*paths: Path) -> str:
+    """A checksum of the names and the bytes of files."""
+    total = hashlib.sha256()
+    for path in paths:
+        data = path.read_bytes()
+        total.update(f"{path.name} {len(data)}\n".encode() + data)
+    return total.hexdigest()
+
+
+def checksum_of(row: Row, kit: Path, libraries: dict[str, list[str]]) -> str:
+    """A checksum of all that the result of an edit depends on."""
+    here = Path(__file__).resolve().parent
+    parts = [checksum_of_files(kit / "KIT-ID", here / "refusals.py", Path(__file__).resolve())]
+    parts += [checksum_of_files(EDITS / f"{row.edit}.edit"), row.function, row.part]
+    for crate in sorted({row.crate} | crates_below(row.crate, libraries)):
+        parts += [crate, *libraries[crate], checksum_of_files(*sources_of(crate))]
+    return hashlib.sha256("\n".join(parts).encode()).hexdigest()
 
 
 def words_of(row: Row, kit: Path, libraries: dict[str, list[str]]) -> list[str]:
@@ -157,14 +187,26 @@ def faults_of_table(rows: list[Row]) -> dict[str, str]:
     return missing | {edit: "there is no such edit" for edit in named - edits}
 
 
-def try_all(rows: list[Row], kit: Path) -> tuple[dict[str, str], dict[str, str]]:
-    """Tries edits side by side. Returns why edits fail, and why edits are skipped."""
+def record_pass(file: Path, edit: str) -> None:
+    """Records that an edit passed. If the cache cannot be written, the edit is tried again by the next run."""
+    with contextlib.suppress(OSError):
+        CACHE.mkdir(parents=True, exist_ok=True)
+        file.write_text(f"{edit}\n")
+
+
+def try_all(rows: list[Row], kit: Path, anew: bool) -> tuple[dict[str, str], dict[str, str]]:
+    """Tries edits side by side, but not those that passed before. Returns why edits fail, and why edits are skipped."""
     libraries, faults, skips = read_libraries(), {}, {}
 
     def try_row(row: Row) -> None:
+        passed = CACHE / checksum_of(row, kit, libraries)
+        if passed.exists() and not anew:
+            return
         try:
             if fault := fault_of(row, kit, libraries):
                 faults[row.edit] = fault
+            else:
+                record_pass(passed, row.edit)
         except NotTried as reason:
             skips[row.edit] = str(reason)
 
@@ -177,13 +219,15 @@ def main(names: list[str]) -> int:
     if names[:1] == ["--help"]:
         print(__doc__.strip())
         return 0
+    anew = names[:1] == ["--anew"]
+    names = names[anew:]
     table = read_rows()
     faults = {name: "there is no such edit" for name in names if name not in {row.edit for row in table}}
     faults |= faults_of_table(table)
     rows = [row for row in table if row.edit not in faults and (not names or row.edit in names)]
     rt = shutil.which("rt")
     if rt:
-        found, skips = try_all(rows, Path(os.path.realpath(rt)).parent.parent)
+        found, skips = try_all(rows, Path(os.path.realpath(rt)).parent.parent, anew)
         faults |= found
     else:
         skips = {row.edit: "there is no command rt" for row in rows}
