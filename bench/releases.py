@@ -3,9 +3,9 @@
 
     bench/releases.sh [COMMIT]
 
-COMMIT has the earlier release; by default it is the last release of an earlier day. Both programs run each row in turns,
-so that a slower machine does not look like a slower program. A row has the milliseconds of the processor of both, the
-lowest of 21 turns, and their ratio. If valgrind is installed, it has the ratio of the instructions too, which does
+COMMIT has the earlier release; by default it is the last release of an earlier day. Both programs run each row in
+turns, so that a slower machine does not look like a slower program. A row has the milliseconds of the processor of
+both, the lowest of 21 turns, and their ratio. If valgrind is installed, it has the ratio of the instructions too, which does
 not depend on the machine.
 """
 
@@ -92,7 +92,8 @@ def git(*words: str) -> bytes:
 def earlier_release() -> str:
     """The last commit of a release before the day of the last one."""
     commits = [line.split() for line in git("log", "--format=%h %cs", "--", RELEASE).decode().splitlines()]
-    return next(commit for commit, day in commits if day != commits[0][1])
+    earlier = (commit for commit, day in commits if day != commits[0][1])
+    return next(earlier, "") or sys.exit("releases.py: the history has no release of an earlier day; name a commit")
 
 
 def main(words: list[str]) -> int:

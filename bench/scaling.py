@@ -4,8 +4,8 @@
     bench/scaling.sh [--program PROGRAM] [ROW..]
 
 Each row is run at three sizes in turns, seven times each. A line for each size has the size, the least processor time
-and the least peak memory; then a line has the exponents between the larger two: 1 is linear, 2 quadratic. The cost of the
-smallest input is subtracted, so that the start of the program does not hide the growth. A row with an easier input of
+and the least peak memory; then a line has the exponents between the larger two: 1 is linear, 2 quadratic. The cost of
+the smallest input is subtracted, so that the start of the program does not hide the growth. A row with an easier input of
 the same size has the ratio of the times, which may be at most 2. A row ends in `ok` or `over`, according to its
 bounds. If the time of a row grows faster than its bound, valgrind counts the instructions of both sizes, and their
 exponent decides: time also grows when data leaves a cache, and with what else the machine does. By default all rows are

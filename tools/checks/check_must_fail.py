@@ -120,22 +120,22 @@ def library_of(crate: str) -> Path:
 
 
 @functools.lru_cache(maxsize=None)
-def checksum_of_files(*paths: Path) -> str:
-    """A checksum of the names and the bytes of files."""
+def checksum_of_files(folder: Path, *paths: Path) -> str:
+    """A checksum of the bytes of files and of their paths in a folder."""
     total = hashlib.sha256()
     for path in paths:
         data = path.read_bytes()
-        total.update(f"{path.name} {len(data)}\n".encode() + data)
+        total.update(f"{path.relative_to(folder)} {len(data)}\n".encode() + data)
     return total.hexdigest()
 
 
 def checksum_of(row: Row, kit: Path, libraries: dict[str, list[str]]) -> str:
     """A checksum of all that the result of an edit depends on."""
-    here = Path(__file__).resolve().parent
-    parts = [checksum_of_files(kit / "KIT-ID", here / "refusals.py", Path(__file__).resolve())]
-    parts += [checksum_of_files(EDITS / f"{row.edit}.edit"), row.function, row.part]
+    checks = ROOT / "tools/checks"
+    parts = [checksum_of_files(kit, kit / "KIT-ID"), row.edit, row.function, row.part]
+    parts.append(checksum_of_files(ROOT, checks / "check_must_fail.py", checks / "refusals.py", EDITS / f"{row.edit}.edit"))
     for crate in sorted({row.crate} | crates_below(row.crate, libraries)):
-        parts += [crate, *libraries[crate], checksum_of_files(*sources_of(crate))]
+        parts += [crate, *libraries[crate], checksum_of_files(ROOT, *sources_of(crate))]
     return hashlib.sha256("\n".join(parts).encode()).hexdigest()
 
 
