@@ -1,15 +1,14 @@
 -- Moving the items of a list with gaps to the front.
 use Rattle.std.proofs.Common.{◌≡◌, ◌<◌, ◌≤◌, ◌+◌, ◌∷◌, [], ℕ, suc, List, Bool, true, false, cond, length}
-use Rattle.std.proofs.Common.{nat_lt, get_or, take, refl, sym, ap, subst, ◌∙◌, arith, None, Some, slice_get}
+use Rattle.std.proofs.Common.{nat_lt, get_or, take, refl, sym, ap, ◌∙◌, arith}
 use Rattle.std.proofs.lemmas.Bool.Decides.{nat_tests}
 use Rattle.std.proofs.lemmas.List.{get_or-take, length-take}
-use Rattle.std.proofs.lemmas.Option.{same_Some, unwrap_or-slice_get}
+use Rattle.std.proofs.lemmas.Option.{unwrap_or-slice_get}
 use Rattle.std.specs.List.{SwappedAt}
 use Rattle.std.specs.Option.{unwrap_or}
 use Rattle.gap_list.specs.Fillings.{AreSlotItemsMoved, AreSlotsFilled}
 use Rattle.gap_list.specs.Gaps.{AreGaps, AreGapsIncreasing, items_without_gaps, slot_at}
-use Rattle.gap_list.proofs.GapSearch.{slot_before_all}
-use Rattle.gap_list.proofs.SlotItems.{gap_count, item_in_slot, length-items_without_gaps}
+use Rattle.gap_list.proofs.SlotItems.{item_in_slot, length-items_without_gaps}
 
 -- the slot of an item is its place and at most the number of gaps
 pub slot_most : (gaps : List ℕ) (place : ℕ) → slot_at gaps place ≤ place + length gaps
@@ -54,14 +53,11 @@ module _ {A : Type 0} where
       ∙ ap (λ o. unwrap_or o d) (sym (item_in_slot gaps slots k))
       ∙ unwrap_or-slice_get (items_without_gaps gaps slots) k d
 
-  -- the items before the first gap are in their slots
-  pub fill_start : (low gap : ℕ) (gaps : List ℕ) (slots : List A) → AreGapsIncreasing low (gap ∷ gaps)
-      → AreSlotsFilled (gap ∷ gaps) (items_without_gaps (gap ∷ gaps) slots) slots gap
-  fill_start low gap gaps slots h = record {
-    filled = λ k d less.
-        ap (λ s. get_or slots s d) (sym (slot_before_all gap k (gap ∷ gaps) (omega arith, h.1) less))
-        ∙ item_by_slot (gap ∷ gaps) slots k d;
-    others = λ k d from within. item_by_slot (gap ∷ gaps) slots k d;
+  -- before any item is moved, each is in its slot
+  pub fill_start : (gaps : List ℕ) (slots : List A) → AreSlotsFilled gaps (items_without_gaps gaps slots) slots 0
+  fill_start gaps slots = record {
+    filled = λ k d less. absurd (omega (arith, less));
+    others = λ k d from within. item_by_slot gaps slots k d;
   }
 
   -- one item is moved
@@ -107,38 +103,13 @@ module _ {A : Type 0} where
       (λ k d less. get_or-take count slots k d (omega (arith, less, len))
       ∙ filled.filled k d (omega (arith, less, len)))
 
-  -- the first slots have all items, if the gaps start at the first place that is moved
-  pub moved_all : (low high gap : ℕ) (gaps : List ℕ) (old new : List A) (len : ℕ) → AreGapsIncreasing low (gap ∷ gaps)
-      → AreSlotItemsMoved (gap ∷ gaps) gap len old new → len ≡ length (items_without_gaps (gap ∷ gaps) old)
-      → len ≤ length new
-      → take len new ≡ items_without_gaps (gap ∷ gaps) old
-  moved_all low high gap gaps old new len h moved e le =
-      fill_end (gap ∷ gaps) (items_without_gaps (gap ∷ gaps) old) new len
-      (moved (items_without_gaps (gap ∷ gaps) old) (omega (arith, e)) (fill_start low gap gaps old h)) (sym e) le
-
-  -- the same, given the first gap
-  pub filled_all : (gaps : List ℕ) (old new : List A) (first len : ℕ) → AreGaps 0 (length old) gaps
-      → Some first ≡ slice_get gaps 0 → AreSlotItemsMoved gaps first len old new → len + length gaps ≡ length old
-      → length new ≡ length old → take len new ≡ items_without_gaps gaps old
-  filled_all [] old new first len h e moved count same = cc
-  filled_all (gap ∷ gaps) old new first len h e moved count same =
-      let is : first ≡ gap = same_Some first gap e in
-      let long : length (items_without_gaps (gap ∷ gaps) old) + length (gap ∷ gaps) ≡ length old =
-      length-items_without_gaps 0 (gap ∷ gaps) old h in
-      moved_all 0 (length old) gap gaps old new len (gaps_increase 0 (length old) (gap ∷ gaps) h)
-      (subst (λ from. AreSlotItemsMoved (gap ∷ gaps) from len old new) is moved) (omega (arith, count, long))
-      (omega (arith, count, same))
-
--- no gap is the first one
-pub no_first_gap : (gaps : List ℕ) → None ≡ slice_get gaps 0 → gaps ≡ []
-no_first_gap [] e = refl
-no_first_gap (gap ∷ gaps) e = cc
-
--- the first gap is before the items that are moved
-pub first_gap_is_within : (gaps : List ℕ) (first high : ℕ) → AreGaps 0 high gaps → Some first ≡ slice_get gaps 0
-    → first + length gaps ≤ high
-first_gap_is_within [] first high h e = cc
-first_gap_is_within (gap ∷ gaps) first high h e =
-    let is : first ≡ gap = same_Some first gap e in
-    let bound : gap + 1 + length gaps ≤ high = gap_count (gap + 1) high gaps h.1 in
-    omega (arith, is, bound)
+  -- when all items are moved, the first slots have all of them
+  pub filled_all : (gaps : List ℕ) (old new : List A) (len : ℕ) → AreGaps 0 (length old) gaps
+      → AreSlotItemsMoved gaps 0 len old new → len + length gaps ≡ length old → length new ≡ length old
+      → take len new ≡ items_without_gaps gaps old
+  filled_all gaps old new len h moved count same =
+      let long : length (items_without_gaps gaps old) + length gaps ≡ length old =
+      length-items_without_gaps 0 gaps old h in
+      fill_end gaps (items_without_gaps gaps old) new len
+      (moved (items_without_gaps gaps old) (omega (arith, count, long)) (fill_start gaps old))
+      (omega (arith, count, long)) (omega (arith, count, same))

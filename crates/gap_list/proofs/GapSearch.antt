@@ -27,6 +27,14 @@ gaps_before_more low (gap ∷ gaps) (suc k) d place h lt le =
           (omega (arith, le)),
     )
 
+-- the gaps before an item are before later items too
+pub gaps_before_later : (place later k : ℕ) (gaps : List ℕ) → place ≤ later → AreGapsBefore place k gaps
+    → AreGapsBefore later k gaps
+gaps_before_later place later zero gaps le h = tt
+gaps_before_later place later (suc k) [] le h = h
+gaps_before_later place later (suc k) (gap ∷ gaps) le h =
+    (omega (arith, h.0, le), gaps_before_later (place + 1) (later + 1) k gaps (omega (arith, le)) h.1)
+
 -- a gap that is after a slot, and all gaps after that gap
 pub gaps_after_more : (low : ℕ) (gaps : List ℕ) (k d slot : ℕ) → AreGapsIncreasing low gaps → k < length gaps
     → slot < get_or gaps k d → AreGapsIncreasing (slot + 1) (drop k gaps)
@@ -51,11 +59,11 @@ slot_before_all low place (gap ∷ gaps) h lt =
 pub slot_past_gaps : (place k low : ℕ) (gaps : List ℕ) → AreGapsBefore place k gaps
     → AreGapsIncreasing low (drop k gaps)
     → place + k < low → slot_at gaps place ≡ place + k
-slot_past_gaps place zero low gaps before behind lt =
-    slot_before_all low place gaps behind (omega (arith, lt)) ∙ sym (add-zero place)
-slot_past_gaps place (suc k) low [] before behind lt = absurd before
-slot_past_gaps place (suc k) low (gap ∷ gaps) before behind lt =
-    by (slot_past_gaps (place + 1) k low gaps before.1 behind (omega (arith, lt))) (nat_lt place gap) refl
+slot_past_gaps place zero low gaps before after lt =
+    slot_before_all low place gaps after (omega (arith, lt)) ∙ sym (add-zero place)
+slot_past_gaps place (suc k) low [] before after lt = absurd before
+slot_past_gaps place (suc k) low (gap ∷ gaps) before after lt =
+    by (slot_past_gaps (place + 1) k low gaps before.1 after (omega (arith, lt))) (nat_lt place gap) refl
   where
     sum : place + 1 + k ≡ place + suc k
     sum = omega arith
@@ -69,16 +77,16 @@ slot_past_gaps place (suc k) low (gap ∷ gaps) before behind lt =
 pub insert_gap : (place k low slot : ℕ) (gaps : List ℕ) → AreGapsBefore place k gaps
     → AreGapsIncreasing low (drop k gaps)
     → place + k < low → slot ≡ place + k → insert gaps k slot ≡ with_gap place gaps
-insert_gap place zero low slot [] before behind lt e = ap (λ s. s ∷ []) (e ∙ add-zero place)
-insert_gap place zero low slot (gap ∷ gaps) before behind lt e = by (nat_lt place gap) refl
+insert_gap place zero low slot [] before after lt e = ap (λ s. s ∷ []) (e ∙ add-zero place)
+insert_gap place zero low slot (gap ∷ gaps) before after lt e = by (nat_lt place gap) refl
   where
     by : (b : Bool) → nat_lt place gap ≡ b
         → slot ∷ gap ∷ gaps ≡ cond b (place ∷ gap ∷ gaps) (gap ∷ with_gap (place + 1) gaps)
     by true f = ap (λ s. s ∷ gap ∷ gaps) (e ∙ add-zero place)
-    by false f = absurd (grind (arith, nat_tests, f, behind.0, lt))
-insert_gap place (suc k) low slot [] before behind lt e = absurd before
-insert_gap place (suc k) low slot (gap ∷ gaps) before behind lt e =
-    by (insert_gap (place + 1) k low slot gaps before.1 behind (omega (arith, lt)) (omega (arith, e)))
+    by false f = absurd (grind (arith, nat_tests, f, after.0, lt))
+insert_gap place (suc k) low slot [] before after lt e = absurd before
+insert_gap place (suc k) low slot (gap ∷ gaps) before after lt e =
+    by (insert_gap (place + 1) k low slot gaps before.1 after (omega (arith, lt)) (omega (arith, e)))
     (nat_lt place gap) refl
   where
     by : insert gaps k slot ≡ with_gap (place + 1) gaps → (b : Bool) → nat_lt place gap ≡ b
@@ -90,15 +98,15 @@ insert_gap place (suc k) low slot (gap ∷ gaps) before behind lt e =
 pub take_gaps_before : (place k low : ℕ) (gaps : List ℕ) → AreGapsBefore place k gaps
     → AreGapsIncreasing low (drop k gaps)
     → place + k < low → take k gaps ≡ gaps_before place gaps
-take_gaps_before place zero low [] before behind lt = refl
-take_gaps_before place zero low (gap ∷ gaps) before behind lt = by (nat_lt place gap) refl
+take_gaps_before place zero low [] before after lt = refl
+take_gaps_before place zero low (gap ∷ gaps) before after lt = by (nat_lt place gap) refl
   where
     by : (b : Bool) → nat_lt place gap ≡ b → [] ≡ cond b [] (gap ∷ gaps_before (place + 1) gaps)
     by true f = refl
-    by false f = absurd (grind (arith, nat_tests, f, behind.0, lt))
-take_gaps_before place (suc k) low [] before behind lt = absurd before
-take_gaps_before place (suc k) low (gap ∷ gaps) before behind lt =
-    by (take_gaps_before (place + 1) k low gaps before.1 behind (omega (arith, lt))) (nat_lt place gap) refl
+    by false f = absurd (grind (arith, nat_tests, f, after.0, lt))
+take_gaps_before place (suc k) low [] before after lt = absurd before
+take_gaps_before place (suc k) low (gap ∷ gaps) before after lt =
+    by (take_gaps_before (place + 1) k low gaps before.1 after (omega (arith, lt))) (nat_lt place gap) refl
   where
     by : take k gaps ≡ gaps_before (place + 1) gaps → (b : Bool) → nat_lt place gap ≡ b
         → gap ∷ take k gaps ≡ cond b [] (gap ∷ gaps_before (place + 1) gaps)

@@ -10,13 +10,13 @@ use Rattle.gap_list.proofs.SlotItems.{length-items_without_gaps}
 
 module _ {A : Type 0} where
   -- items up to the removed one
-  take-remove-behind : (xs : List A) (gap len : ℕ) → len ≤ gap → take len (remove xs gap) ≡ take len xs
-  take-remove-behind xs gap zero h = refl
-  take-remove-behind [] zero (suc len) h = refl
-  take-remove-behind [] (suc gap) (suc len) h = refl
-  take-remove-behind (x ∷ xs) zero (suc len) h = absurd (omega (arith, h))
-  take-remove-behind (x ∷ xs) (suc gap) (suc len) h =
-      ap {B = List A} (λ l. x ∷ l) (take-remove-behind xs gap len (omega (arith, h)))
+  take-remove-later : (xs : List A) (gap len : ℕ) → len ≤ gap → take len (remove xs gap) ≡ take len xs
+  take-remove-later xs gap zero h = refl
+  take-remove-later [] zero (suc len) h = refl
+  take-remove-later [] (suc gap) (suc len) h = refl
+  take-remove-later (x ∷ xs) zero (suc len) h = absurd (omega (arith, h))
+  take-remove-later (x ∷ xs) (suc gap) (suc len) h =
+      ap {B = List A} (λ l. x ∷ l) (take-remove-later xs gap len (omega (arith, h)))
 
   -- one more item is taken if one of them is removed
   take-remove : (xs : List A) (gap len : ℕ) → gap ≤ len → remove (take (suc len) xs) gap ≡ take len (remove xs gap)
@@ -34,7 +34,7 @@ module _ {A : Type 0} where
       → take len (items_without_gaps gaps slots) ≡ take len slots
   take_before_gaps low len [] slots h le = refl
   take_before_gaps low len (gap ∷ gaps) slots h le =
-      take-remove-behind (items_without_gaps gaps slots) gap len (omega (arith, h.0, le))
+      take-remove-later (items_without_gaps gaps slots) gap len (omega (arith, h.0, le))
       ∙ take_before_gaps (gap + 1) len gaps slots h.1 (omega (arith, h.0, le))
 
   -- the first items are those of the slots before the next one, without the gaps before it
@@ -57,7 +57,7 @@ module _ {A : Type 0} where
           let less : len < gap = grind (arith, nat_tests, e) in
           ap (λ n. take n slots) (slot_before_all (gap + 1) len gaps h.1 (omega (arith, less)))
           ∙ sym (take_before_gaps (gap + 1) len gaps slots h.1 (omega (arith, less)))
-          ∙ sym (take-remove-behind items gap len (omega (arith, less)))
+          ∙ sym (take-remove-later items gap len (omega (arith, less)))
       by rest false e =
           let more : gap ≤ len = grind (arith, nat_tests, e) in
           ap (λ (l : List A). remove l gap) (rest ∙ ap (λ n. take n items) (add-one len))

@@ -27,6 +27,11 @@ abbrev pub with_gap : (place : ℕ) (gaps : List ℕ) → List ℕ
 with_gap place [] = place ∷ []
 with_gap place (gap ∷ gaps) = if nat_lt place gap then place ∷ gap ∷ gaps else gap ∷ with_gap (place + 1) gaps
 
+-- the gaps of a list from which more items were removed: `more` are gaps of the list without `gaps`
+abbrev pub gaps_with_more : (gaps more : List ℕ) → List ℕ
+gaps_with_more gaps [] = gaps
+gaps_with_more gaps (gap ∷ more) = with_gap gap (gaps_with_more gaps more)
+
 -- the gaps before the item at a place
 abbrev pub gaps_before : (place : ℕ) (gaps : List ℕ) → List ℕ
 gaps_before place [] = []

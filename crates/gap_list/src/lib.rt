@@ -5,6 +5,9 @@ mod filling;
 mod gaps;
 mod laws;
 mod list;
+mod merges;
+mod moves;
+mod searches;
 mod slots;
 
 pub use gaps::Gaps;

@@ -1,14 +1,13 @@
 use Rattle.std.proofs.Common.{◌≡◌, ◌<◌, ◌+◌, ◌-◌, ◌/◌, ℕ, List, length, drop, subst, sym, arith, add-one}
 use Rattle.gap_list.specs.Gaps.{AreGapsIncreasing, place_without_gaps}
 use Rattle.gap_list.proofs.GapSearch.{place_past_gaps, place_up_to_gap}
-use Rattle.gap_list.proofs.gaps.Gaps.count_below.Goals as goal
+use Rattle.gap_list.proofs.searches.count_below.Goals as goal
 
 pub loop-low-preserved-then-gaps-middle : goal.loop-low-preserved-then-gaps-middle
 loop-low-preserved-then-gaps-middle c =
-    let gaps : List ℕ = c.as_slice-gaps.result.now in
+    let gaps : List ℕ = c.args.gaps.now in
     let middle : ℕ = c.loop-low.low + (c.loop-low.high - c.loop-low.low) / 2 in
-    let up : AreGapsIncreasing 0 gaps = subst (AreGapsIncreasing 0) (sym c.as_slice-gaps.ensures.value) c.self.invariant
-    in
+    let up : AreGapsIncreasing 0 gaps = c.requires in
     let within : middle < length gaps = omega (arith, c.loop-low-test.true, c.loop-low.invariant.within) in
     record {
       ordered = omega (arith, c.loop-low-test.true);
@@ -16,19 +15,18 @@ loop-low-preserved-then-gaps-middle c =
       before = subst (λ n. place_without_gaps gaps c.args.slot + n ≡ place_without_gaps (drop n gaps) c.args.slot)
           (sym (add-one middle))
           (place_past_gaps 0 gaps middle 0 c.args.slot up within (omega (arith, c.if-gaps-middle.true)));
-      behind = c.loop-low.invariant.behind;
+      after = c.loop-low.invariant.after;
     }
 
 pub loop-low-preserved : goal.loop-low-preserved
 loop-low-preserved c =
-    let gaps : List ℕ = c.as_slice-gaps.result.now in
+    let gaps : List ℕ = c.args.gaps.now in
     let middle : ℕ = c.loop-low.low + (c.loop-low.high - c.loop-low.low) / 2 in
-    let up : AreGapsIncreasing 0 gaps = subst (AreGapsIncreasing 0) (sym c.as_slice-gaps.ensures.value) c.self.invariant
-    in
+    let up : AreGapsIncreasing 0 gaps = c.requires in
     let within : middle < length gaps = omega (arith, c.loop-low-test.true, c.loop-low.invariant.within) in
     record {
       ordered = omega (arith, c.loop-low-test.true);
       within = omega (arith, within);
       before = c.loop-low.invariant.before;
-      behind = place_up_to_gap 0 gaps middle 0 c.args.slot up within (omega (arith, c.if-gaps-middle.false));
+      after = place_up_to_gap 0 gaps middle 0 c.args.slot up within (omega (arith, c.if-gaps-middle.false));
     }
