@@ -21,7 +21,7 @@ use Rattle.deck.specs.Tables.{table_of_deck_definitions}
 use Rattle.deck.specs.LineRemoval.{CanUndefineDeckLine}
 use Rattle.deck.specs.declared.places.last_places.LastPlaces.{LastPlaces}
 use Rattle.deck.specs.declared.settings.Settings.{Settings}
-use Rattle.deck.proofs.CoveredPlaces.{active_definitions_below, may_cover_definitions_others}
+use Rattle.deck.proofs.KnownCover.{active_definitions_below, may_cover_definitions_others}
 use Rattle.deck.proofs.LastRemoval.{deck_front_without_last_line, defined_there, definitions_are}
 use Rattle.deck.proofs.LastRemoval.{edit_changes_by_removal, indexed_less, place_of_last_deck_line, room_there}
 

@@ -39,5 +39,6 @@ mod UncoveredKeys
 mod LastRemoval
 mod Variables
 mod CoveredPlaces
+mod KnownCover
 mod PushedCover
 mod DroppedCover

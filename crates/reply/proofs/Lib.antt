@@ -6,6 +6,7 @@ mod Examples
 pub mod Fronts
 mod FurtherCounts
 mod GrantedTexts
+mod GrantedValues
 mod GrantedReplies
 mod InquiryResults
 mod ListConversions

@@ -1,6 +1,6 @@
 use Rattle.std.proofs.Common.{subst}
 use Rattle.deck.specs.CoveredLines.{MayCoverDefinitions}
-use Rattle.deck.proofs.CoveredPlaces.{may_cover_definitions_front}
+use Rattle.deck.proofs.KnownCover.{may_cover_definitions_front}
 use Rattle.deck.proofs.places.covered_lines.first_lines.Goals as goal
 
 pub returns : goal.returns

@@ -1,6 +1,6 @@
 use Rattle.std.proofs.Common.{subst}
 use Rattle.deck.specs.CoveredLines.{MayCoverDefinitions}
-use Rattle.deck.proofs.CoveredPlaces.{may_cover_definitions_more}
+use Rattle.deck.proofs.KnownCover.{may_cover_definitions_more}
 use Rattle.deck.proofs.places.covered_lines.with_line.Goals as goal
 
 pub returns-in-Ok : goal.returns-in-Ok

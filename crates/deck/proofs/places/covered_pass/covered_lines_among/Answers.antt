@@ -10,7 +10,7 @@ use Rattle.deck_lines.specs.declared.line.DeckLine.{DeckLine}
 use Rattle.deck.specs.CoveredLines.{MayCoverDefinitions}
 use Rattle.deck.specs.LastPlaces.{AreLastDefinitionPlaces}
 use Rattle.deck.specs.Tables.{DeckDefinitions, active_definitions_among, definition_of_active_line}
-use Rattle.deck.proofs.CoveredPlaces.{may_cover_definitions_step}
+use Rattle.deck.proofs.KnownCover.{may_cover_definitions_step}
 use Rattle.deck.proofs.LastPlaceSteps.{active_definitions_among_step}
 use Rattle.deck.proofs.places.covered_pass.covered_lines_among.Goals as goal
 

@@ -1,7 +1,7 @@
 use Rattle.std.proofs.Common.{ap, option_map, slice_get, sym, ◌∙◌}
 use Rattle.std.proofs.lemmas.Option.{same_Some, slice_get-map}
 use Rattle.gap_list.specs.Gaps.{place_without_gaps}
-use Rattle.deck.proofs.CoveredPlaces.{covered_definition_place_mapped, no_covered_definition_mapped}
+use Rattle.deck.proofs.KnownCover.{covered_definition_place_mapped, no_covered_definition_mapped}
 use Rattle.deck.proofs.places.covered_lines.CoveredLines.get.Goals as goal
 
 pub returns-in-Some : goal.returns-in-Some
