@@ -33,7 +33,7 @@ deck_load_has_one_excerpt : {E : Type 0} (a b : Excerpt) (xs ys : List Transcrip
     → ◌≡◌ {A = Load E} (Yields a xs) (Yields b ys) → a ≡ b
 deck_load_has_one_excerpt a b xs ys h = cc
 
-deck_load_has_one_fault : {E : Type 0} (a b : E) (xs ys : List TranscriptFetch)
+pub deck_load_has_one_fault : {E : Type 0} (a b : E) (xs ys : List TranscriptFetch)
     → ◌≡◌ {A = Load E} (Fails a xs) (Fails b ys) → a ≡ b
 deck_load_has_one_fault a b xs ys h = cc
 
@@ -43,22 +43,37 @@ of_load (Ok excerpt) = Ok excerpt
 of_load (Err fault) = Err (deck_fault_of_load fault)
 
 -- a load that asks for a file has no outcome
-asking_deck_load_has_no_outcome : {E : Type 0} (name : List ℕ) (rest left : List TranscriptFetch)
+pub asking_deck_load_has_no_outcome : {E : Type 0} (name : List ℕ) (rest left : List TranscriptFetch)
     (outcome : Result Excerpt E)
     → ◌≡◌ {A = Load E} (Asks name rest) (load_outcome outcome left) → ⊥
 asking_deck_load_has_no_outcome name rest left (Ok excerpt) h = cc
 asking_deck_load_has_no_outcome name rest left (Err fault) h = cc
 
--- the outcome of a load of a deck is that of the load of its lines
-deck_load_outcome_of_lines : (l : Load LoadFault) (rest : List TranscriptFetch) (outcome : Result Excerpt DeckFault)
+-- a load leaves one list of fetches
+pub deck_load_leaves_one_list : {E : Type 0} (a b : E) (xs ys : List TranscriptFetch)
+    → ◌≡◌ {A = Load E} (Fails a xs) (Fails b ys) → xs ≡ ys
+deck_load_leaves_one_list a b xs ys h = cc
+
+yielded_deck_load_leaves_one_list : {E : Type 0} (a b : Excerpt) (xs ys : List TranscriptFetch)
+    → ◌≡◌ {A = Load E} (Yields a xs) (Yields b ys) → xs ≡ ys
+yielded_deck_load_leaves_one_list a b xs ys h = cc
+
+-- the outcome of a load of a deck is that of the load of its lines, and leaves the same fetches
+pub deck_load_outcome_of_lines : (l : Load LoadFault) (rest : List TranscriptFetch) (outcome : Result Excerpt DeckFault)
     → load_with_deck_fault deck_fault_of_load l ≡ load_outcome outcome rest
-    → (o : Result Excerpt LoadFault) × (left : List TranscriptFetch) × (l ≡ load_outcome o left) × (outcome ≡ of_load o)
-deck_load_outcome_of_lines (Yields e left) rest (Ok x) h =
-    (Ok e, left, refl, ap Ok (sym (deck_load_has_one_excerpt e x left rest h)))
+    → (o : Result Excerpt LoadFault) × (l ≡ load_outcome o rest) × (outcome ≡ of_load o)
+deck_load_outcome_of_lines (Yields e left) rest (Ok x) h = (
+  Ok e,
+  ap (Yields e) (yielded_deck_load_leaves_one_list e x left rest h),
+  ap Ok (sym (deck_load_has_one_excerpt e x left rest h)),
+)
 deck_load_outcome_of_lines (Yields e left) rest (Err fault) h = cc
 deck_load_outcome_of_lines (Fails f left) rest (Ok x) h = cc
-deck_load_outcome_of_lines (Fails f left) rest (Err fault) h =
-    (Err f, left, refl, ap Err (sym (deck_load_has_one_fault (deck_fault_of_load f) fault left rest h)))
+deck_load_outcome_of_lines (Fails f left) rest (Err fault) h = (
+  Err f,
+  ap (Fails f) (deck_load_leaves_one_list (deck_fault_of_load f) fault left rest h),
+  ap Err (sym (deck_load_has_one_fault (deck_fault_of_load f) fault left rest h)),
+)
 deck_load_outcome_of_lines (Asks name left) rest outcome h =
     absurd (asking_deck_load_has_no_outcome name left rest outcome h)
 
@@ -98,10 +113,10 @@ module _ (law : KnownLoadLaw) (m : FileMap) (name : List ℕ) (d : DeckContents)
   answer_known (Ok bytes) fetches rest outcome may are h =
       let p = deck_load_outcome_of_lines (load_of_file name bytes (deck_excerpt_of_lines d.lines) fetches) rest outcome
       h in
-      subst (λ o. IsErrAnd o MayDeckLoadFailWith ⊎ (deck_after_appending m name d ≡ deck_of_outcome d o)) (sym p.3)
+      subst (λ o. IsErrAnd o MayDeckLoadFailWith ⊎ (deck_after_appending m name d ≡ deck_of_outcome d o)) (sym p.2)
       (subst (λ a. IsErrAnd (of_load p.0) MayDeckLoadFailWith ⊎
       (deck_append_by_answer m name a d ≡ deck_of_outcome d (of_load p.0)))
-      (sym may) (read_known bytes fetches p.1 p.0 are p.2))
+      (sym may) (read_known bytes fetches rest p.0 are p.1))
   answer_known (Err fault) fetches rest (Ok excerpt) may are h = cc
   answer_known (Err fetch.Absent) fetches rest (Err fault) may are h =
       inr (ap (λ a. deck_append_by_answer m name a d) may

@@ -15,6 +15,7 @@ mod KeyCounts
 mod KeyLists
 mod KindPlacing
 mod KnownLoads
+mod LoadConsequences
 mod LastLine
 mod LastPlaceSteps
 mod DistinctKeys

@@ -1,17 +1,16 @@
 -- The outcomes of loading a file.
 use Rattle.std.specs.Prelude.{◌≡◌, ◌⊎◌, ◌++◌, ℕ, List, [], Bool, true, false, Some, Result, Ok, Err, MatchResult}
-use Rattle.std.specs.Prelude.{IsErrAnd}
+use Rattle.std.specs.Prelude.{IfOk, IsErrAnd}
 use Rattle.units_io.specs.Faults.{next_io_count}
 use Rattle.units_io.specs.FileMap.{FileMap, file_of_name}
 use Rattle.units_io.specs.FetchResults.{file_fetch_answer}
 use Rattle.units_io.specs.declared.files.FetchFault.{FetchFault}
 use Rattle.units_io.specs.declared.files.FetchFault.TheVariants as fetch
-use Rattle.def_entry.specs.declared.key.Key.{Key}
 use Rattle.deck_lines.specs.Excerpts.{Excerpt}
 use Rattle.deck_lines.specs.Includes.{excerpt_of_deck_file, excerpt_of_lone_deck_file}
 use Rattle.deck_lines.specs.LineLoads.{load_of_file}
-use Rattle.deck_lines.specs.Transcripts.{AreTranscriptAnswersOf, Asks, Fails, HasTranscript, Load, TranscriptFetch}
-use Rattle.deck_lines.specs.Transcripts.{Yields, load_after_fetch}
+use Rattle.deck_lines.specs.Transcripts.{AreTranscriptAnswersOf, Asks, Fails, FilesModel, HasTranscript, IsLoad}
+use Rattle.deck_lines.specs.Transcripts.{IsTranscript, Load, TranscriptFetch, Yields, load_after_fetch}
 use Rattle.deck_lines.specs.declared.line.DeckLine.{DeckLine}
 use Rattle.deck_lines.specs.declared.draft.LoadFault.{LoadFault}
 use Rattle.deck_lines.specs.declared.draft.LoadFault.TheVariants as load
@@ -79,17 +78,10 @@ abbrev pub IsDeckLoaded : Result DeckContents DeckFault → Result DeckContents 
 IsDeckLoaded outcome result =
     MatchResult result (λ d. outcome ≡ Ok d) (λ fault. MayDeckLoadFailWith fault ⊎ (outcome ≡ Err fault))
 
--- these are the lines and notices of the deck of this outcome; or the result is the error of the outcome, or a failed
--- fetch or allocation
-abbrev pub IsDeckLoadRead : {T : Type 0} → Result DeckContents DeckFault → DeckContents → List DeckLine → List (List ℕ)
-    → Result T DeckFault → Type 0
-IsDeckLoadRead outcome d lines notices (Ok _) = outcome ≡ Ok (record d { lines = lines; notices = notices })
-IsDeckLoadRead outcome d lines notices (Err fault) = MayDeckLoadFailWith fault ⊎ (outcome ≡ Err fault)
-
--- an append yields the deck or the error of this outcome, or a failed fetch or allocation
-abbrev pub IsDeckAppended : Result DeckContents DeckFault → DeckContents → Result (List Key) DeckFault → Type 0
-IsDeckAppended outcome new result =
-    MatchResult result (λ _. outcome ≡ Ok new) (λ fault. MayDeckLoadFailWith fault ⊎ (outcome ≡ Err fault))
+-- an append to a deck leaves the deck of this outcome, fails with its error, or fails with a failed fetch or allocation
+abbrev pub IsDeckAppended : {T : Type 0} → Result DeckContents DeckFault → DeckContents → Result T DeckFault → Type 0
+IsDeckAppended outcome now result =
+    MatchResult result (λ _. outcome ≡ Ok now) (λ fault. MayDeckLoadFailWith fault ⊎ (outcome ≡ Err fault))
 
 -- the lines and the notices of a deck
 abbrev pub excerpt_of_deck : DeckContents → Excerpt
@@ -130,14 +122,39 @@ KnownDeckAppendLaw =
     outcome
     → IsErrAnd outcome MayDeckLoadFailWith ⊎ (deck_after_appending files name d ≡ deck_of_outcome d outcome)
 
+-- the count of failed fetches after a load, which ends with the first failed fetch
+abbrev pub fetch_faults_after_deck_load : {T : Type 0} → ℕ → Result T DeckFault → ℕ
+fetch_faults_after_deck_load faults (Err ReadFailed) = next_io_count faults
+fetch_faults_after_deck_load faults _ = faults
+
+-- law: consequences of a load of files with this view
+pub record DeckLoadLaw {State : Type 0} (model : FilesModel State) : Type 0 where
+  -- if the files are known, they determine the deck or the error of a load, unless a fetch fails or memory runs out
+  pub loaded : (from to : State) (files : FileMap) (name : List ℕ) (settings : Settings)
+      (result : Result DeckContents DeckFault)
+      → model.bytes from ≡ Some files → IfOk result (λ d. d.settings ≡ settings)
+      → IsLoad model from to OutOfMemory (deck_load_of_name name (deck_excerpt_of_lines [])) excerpt_of_deck result
+      → IsDeckLoaded (deck_after_loading files name settings) result
+  -- if the files are known, they determine the deck or the error of an append, unless a fetch fails or memory runs out
+  pub appended : (from to : State) (files : FileMap) (name : List ℕ) (d now : DeckContents)
+      (result : Result (Unit {0}) DeckFault)
+      → model.bytes from ≡ Some files → now.settings ≡ d.settings
+      → IsLoad model from to OutOfMemory (deck_load_of_name name (deck_excerpt_of_lines d.lines))
+      (λ _. excerpt_of_deck now) result
+      → IsDeckAppended (deck_after_appending files name d) now result
+  -- one more failed fetch is counted exactly if a load ends with `ReadFailed`
+  pub loaded_count : (from to : State) (name : List ℕ) (result : Result DeckContents DeckFault)
+      → IsLoad model from to OutOfMemory (deck_load_of_name name (deck_excerpt_of_lines [])) excerpt_of_deck result
+      → model.faults to ≡ fetch_faults_after_deck_load (model.faults from) result
+  -- one more failed fetch is counted exactly if an append ends with `ReadFailed`
+  pub appended_count : (from to : State) (name : List ℕ) (d now : DeckContents) (result : Result (Unit {0}) DeckFault)
+      → IsLoad model from to OutOfMemory (deck_load_of_name name (deck_excerpt_of_lines d.lines))
+      (λ _. excerpt_of_deck now) result
+      → model.faults to ≡ fetch_faults_after_deck_load (model.faults from) result
+
 -- law: an append keeps the lines before it and appends others
 abbrev pub AppendedDeckLinesLaw : Type 0
 AppendedDeckLinesLaw =
     (name : List ℕ) (before now : Excerpt) (transcript rest : List TranscriptFetch)
     → deck_load_of_name name before transcript ≡ Yields now rest
     → (more : List DeckLine) × (now.lines ≡ before.lines ++ more)
-
--- the count of failed fetches after a load, which ends with the first failed fetch
-abbrev pub fetch_faults_after_deck_load : {T : Type 0} → ℕ → Result T DeckFault → ℕ
-fetch_faults_after_deck_load faults (Err ReadFailed) = next_io_count faults
-fetch_faults_after_deck_load faults _ = faults

@@ -4,14 +4,16 @@ ghost use Rattle.deck.specs.BlockExamples.{EnclosingExamplesLaw};
 ghost use Rattle.deck.specs.Changes.{KeysChangedByEditLaw};
 ghost use Rattle.deck.specs.EnclosingBlocks.{EnclosingLaw};
 ghost use Rattle.deck.specs.Examples.{DeckExamplesLaw};
-ghost use Rattle.deck.specs.FileLoads.{AppendedDeckLinesLaw, KnownDeckAppendLaw};
+ghost use Rattle.deck.specs.FileLoads.{AppendedDeckLinesLaw, DeckLoadLaw, KnownDeckAppendLaw};
+ghost use Rattle.deck_lines.specs.Transcripts.{files_model};
 ghost use Rattle.deck.specs.KeyLists.{DeckKeyListLaw, DeckTableKeysLaw};
 ghost use Rattle.deck.specs.SettingChanges.{SettingLaw};
 ghost use Rattle.deck.specs.Splices.{DeckSpliceInverseLaw};
 ghost use Rattle.deck.specs.Tables.{DeckTableLaw};
 
-use deck_lines::{known_files_determine_loads, loads_keep_lines};
+use deck_lines::{failed_fetches_end_loads, known_files_determine_loads, loads_keep_lines};
 use def_entry::same_text_law;
+use units_io::Files;
 
 /// The inverse of a splice restores the deck.
 pub fn splices_are_undone()
@@ -35,6 +37,14 @@ pub fn known_files_determine_appends()
     ensures { KnownDeckAppendLaw }
 {
     known_files_determine_loads();
+}
+
+/// The transcript of a load determines the deck or the error, if the files are known, and the count of failed fetches.
+pub fn transcripts_determine_loads<F: Files>()
+    ensures { DeckLoadLaw (files_model F.files F.faults F.is_fetch) }
+{
+    known_files_determine_loads();
+    failed_fetches_end_loads();
 }
 
 /// An append keeps the lines before it.

@@ -16,7 +16,7 @@ pub use fault::DeckFault;
 pub use laws::{
     appends_keep_lines, block_examples_law, changes_are_computed, enclosing_law, examples_law,
     key_lists_are_one, known_files_determine_appends, settings_are_undone, splices_are_undone,
-    table_keys_law, tables_are_of_lines,
+    table_keys_law, tables_are_of_lines, transcripts_determine_loads,
 };
 pub use no_files::NoFiles;
 pub use settings::Settings;

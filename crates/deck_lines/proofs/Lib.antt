@@ -16,6 +16,7 @@ mod StoredLines
 mod KnownLoads
 mod PartInduction
 mod FailedLoads
+mod CountedLoads
 mod AskedLoads
 mod KeptLines
 mod LastFetches

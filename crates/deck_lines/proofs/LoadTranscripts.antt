@@ -19,7 +19,7 @@ use Rattle.deck_lines.specs.Marks.{plain_store_line}
 use Rattle.deck_lines.specs.Readings.{StoreLineReading, Stands, Defines, Includes, Faulty, store_line_reading_of}
 use Rattle.deck_lines.specs.Transcripts.{AreTranscriptAnswersOf, LoadContinuesAs, Fails, TranscriptFetch, FetchRelation}
 use Rattle.deck_lines.specs.Transcripts.{AreFetchesBetween}
-use Rattle.deck_lines.specs.Transcripts.{HasTranscript, IsLoad, IsTranscript, Load, Yields, load_outcome, loads_in_turn}
+use Rattle.deck_lines.specs.Transcripts.{HasTranscript, IsPartLoad, IsPartTranscript, Load, Yields, load_outcome, loads_in_turn}
 use Rattle.deck_lines.specs.declared.draft.Draft.{Draft}
 use Rattle.deck_lines.specs.declared.draft.LoadFault.{LoadFault}
 use Rattle.deck_lines.specs.declared.draft.LoadFault.TheVariants.{DeckFull, ReadFailed, OutOfMemory}
@@ -61,9 +61,9 @@ load_continues_in_turn are_made part second outcome h =
 pub load_fails_in_turn : {T E : Type 0} (wanting : E) (are_made : List TranscriptFetch → Type 0)
     (part : List TranscriptFetch → Load E)
     (second : Excerpt → List TranscriptFetch → Load E) (left now : T → Excerpt) (fault : E)
-    → IsLoad wanting are_made part left
+    → IsPartLoad wanting are_made part left
     (Err fault)
-    → IsLoad wanting are_made (λ fetches. loads_in_turn (part fetches) second) now (Err fault)
+    → IsPartLoad wanting are_made (λ fetches. loads_in_turn (part fetches) second) now (Err fault)
 load_fails_in_turn wanting are_made part second left now fault (inl e) = inl e
 load_fails_in_turn wanting are_made part second left now fault (inr h) =
     inr (load_continues_in_turn are_made part second (Err fault) h)
@@ -75,7 +75,7 @@ load_by b now fetches = cond b (Fails DeckFull fetches) (Yields now fetches)
 -- an excerpt that is put is loaded, without a fetch
 pub excerpt_loads : (are_made : List TranscriptFetch → Type 0) (before after : Draft) (excerpt : Excerpt)
     (r : Result (Unit {0}) LoadFault) → are_made [] → IsExcerptPut before excerpt r after
-    → IsLoad OutOfMemory are_made (load_of_excerpt excerpt (excerpt_in before)) (λ _. excerpt_in after) r
+    → IsPartLoad OutOfMemory are_made (load_of_excerpt excerpt (excerpt_in before)) (λ _. excerpt_in after) r
 excerpt_loads are_made before after excerpt (Ok u) none put =
     let fits : pass_store_limit (before.store.lines ++ excerpt.lines) ≡ false =
     ap (λ (d : Draft). pass_store_limit d.store.lines)
@@ -101,16 +101,16 @@ pub alone_loads : (are_made : List TranscriptFetch → Type 0) (includes : List 
     → IsAlone reading
     → reading ≡ store_line_reading_of x.text
     → IsExcerptPut before (line_excerpt (λ word. NotRead []) file blocks x reading) r after
-    → IsLoad OutOfMemory are_made
+    → IsPartLoad OutOfMemory are_made
     (load_of_line includes file blocks x (store_line_reading_of x.text) (excerpt_in before))
     (λ _. excerpt_in after) r
 alone_loads are_made includes file blocks x reading before after r none alone e put =
-    subst (λ t. IsLoad OutOfMemory are_made (load_of_line includes file blocks x t (excerpt_in before))
+    subst (λ t. IsPartLoad OutOfMemory are_made (load_of_line includes file blocks x t (excerpt_in before))
     (λ _. excerpt_in after) r) e (by reading alone put)
   where
     by : (t : StoreLineReading) → IsAlone t → IsExcerptPut before (line_excerpt (λ word. NotRead []) file blocks x t) r
         after
-        → IsLoad OutOfMemory are_made (load_of_line includes file blocks x t (excerpt_in before))
+        → IsPartLoad OutOfMemory are_made (load_of_line includes file blocks x t (excerpt_in before))
         (λ _. excerpt_in after) r
     by (Includes word) h g = absurd h
     by (Stands role) h g =
@@ -122,7 +122,7 @@ alone_loads are_made includes file blocks x reading before after r none alone e 
 module _ {State : Type 0} (files : Option FileMap) (is_fetch : FetchRelation State) where
   -- these are the fetches between the two states
   abbrev pub AreBetween : State → State → List TranscriptFetch → Type 0
-  AreBetween from to fetches = IsTranscript files is_fetch from to fetches
+  AreBetween from to fetches = IsPartTranscript files is_fetch from to fetches
 
   -- no fetch is made
   pub none_between : (state : State) → AreBetween state state []
@@ -145,8 +145,8 @@ module _ {State : Type 0} (files : Option FileMap) (is_fetch : FetchRelation Sta
   load_ends : {T E : Type 0} (wanting : E) (from mid to : State) (load later : List TranscriptFetch → Load E)
       (left : T → Excerpt)
       (r : Result T E) → LoadContinuesAs (AreBetween from mid) load later
-      → IsLoad wanting (AreBetween mid to) later left r
-      → IsLoad wanting (AreBetween from to) load left r
+      → IsPartLoad wanting (AreBetween mid to) later left r
+      → IsPartLoad wanting (AreBetween from to) load left r
   load_ends wanting from mid to load later left (Ok value) so_far h =
       continues_on from mid to load later (load_outcome (Ok (left value))) so_far h
   load_ends wanting from mid to load later left (Err fault) so_far (inl e) = inl e
@@ -161,12 +161,12 @@ module _ {State : Type 0} (files : Option FileMap) (is_fetch : FetchRelation Sta
       -- the load of a file ends with that of its end
       pub file_ends : (after : Draft) (r : Result (Unit {0}) LoadFault) → ys ≡ []
           → IsExcerptPut mid (excerpt_of_file_end file blocks) r after
-          → IsLoad OutOfMemory (AreBetween from here) whole (λ _. excerpt_in after) r
+          → IsPartLoad OutOfMemory (AreBetween from here) whole (λ _. excerpt_in after) r
       unfolding load_of_rest
       file_ends after r e put =
           load_ends OutOfMemory from here here whole (load_of_rest includes file blocks ys (excerpt_in mid))
           (λ _. excerpt_in after) r so_far
-          (subst (λ lines. IsLoad OutOfMemory (AreBetween here here)
+          (subst (λ lines. IsPartLoad OutOfMemory (AreBetween here here)
           (load_of_rest includes file blocks lines (excerpt_in mid)) (λ _. excerpt_in after) r) (sym e)
           (excerpt_loads (AreBetween here here) mid after (excerpt_of_file_end file blocks) r (none_between here) put))
 
@@ -195,7 +195,7 @@ module _ {State : Type 0} (files : Option FileMap) (is_fetch : FetchRelation Sta
         -- after a line is loaded, the load of the file continues as that of the remaining lines
         pub line_leads_on : (next : State) (now : Draft) (blocks_now : List Block)
             → blocks_now ≡ blocks_behind_line blocks x (store_line_reading_of x.text)
-            → IsLoad {T = Unit {0}} OutOfMemory (AreBetween here next) first (λ _. excerpt_in now) (Ok tt)
+            → IsPartLoad {T = Unit {0}} OutOfMemory (AreBetween here next) first (λ _. excerpt_in now) (Ok tt)
             → LoadContinuesAs (AreBetween from next) whole (load_of_rest includes file blocks_now zs (excerpt_in now))
         line_leads_on next now blocks_now behind h =
             subst (λ bs. LoadContinuesAs (AreBetween from next) whole
@@ -206,8 +206,8 @@ module _ {State : Type 0} (files : Option FileMap) (is_fetch : FetchRelation Sta
 
         -- a fault at a line ends the load of the file
         pub line_ends : (next : State) (now after : Draft) (fault : LoadFault)
-            → IsLoad {T = Unit {0}} OutOfMemory (AreBetween here next) first (λ _. excerpt_in now) (Err fault)
-            → IsLoad {T = Unit {0}} OutOfMemory (AreBetween from next) whole (λ _. excerpt_in after) (Err fault)
+            → IsPartLoad {T = Unit {0}} OutOfMemory (AreBetween here next) first (λ _. excerpt_in now) (Err fault)
+            → IsPartLoad {T = Unit {0}} OutOfMemory (AreBetween from next) whole (λ _. excerpt_in after) (Err fault)
         line_ends next now after fault h =
             load_ends {T = Unit {0}} OutOfMemory from here next whole in_parts
             (λ _. excerpt_in after) (Err fault) at_line
@@ -218,11 +218,11 @@ module _ {State : Type 0} (files : Option FileMap) (is_fetch : FetchRelation Sta
   pub deep_loads : (state : State) (depth : ℕ) (includer name : List ℕ) (line : Line) (before after : Draft)
       (r : Result (Unit {0}) LoadFault) → depth ≡ 0
       → IsExcerptPut before (line_with_notice includer line (codes "include too deep: " ++ name)) r after
-      → IsLoad OutOfMemory (AreBetween state state) (load_below depth includer name line (excerpt_in before))
+      → IsPartLoad OutOfMemory (AreBetween state state) (load_below depth includer name line (excerpt_in before))
       (λ _. excerpt_in after) r
   unfolding load_below
   deep_loads state depth includer name line before after r e put =
-      subst (λ n. IsLoad OutOfMemory (AreBetween state state) (load_below n includer name line (excerpt_in before))
+      subst (λ n. IsPartLoad OutOfMemory (AreBetween state state) (load_below n includer name line (excerpt_in before))
       (λ _. excerpt_in after) r) (sym e)
       (excerpt_loads (AreBetween state state) before after
       (line_with_notice includer line (codes "include too deep: " ++ name)) r (none_between state) put)
@@ -263,7 +263,7 @@ module _ {State : Type 0} (files : Option FileMap) (is_fetch : FetchRelation Sta
 
     pub full_ends : (after : Draft)
         → pass_store_limit (before.store.lines ++ plain_store_line line.number line.text ∷ []) ≡ true
-        → IsLoad {T = Unit {0}} OutOfMemory (AreBetween from from) (include depth) (λ _. excerpt_in after)
+        → IsPartLoad {T = Unit {0}} OutOfMemory (AreBetween from from) (include depth) (λ _. excerpt_in after)
         (Err DeckFull)
     full_ends after full =
         inr (subst (λ n. HasTranscript (AreBetween from from) (include n) (Err DeckFull)) deeper
@@ -278,8 +278,8 @@ module _ {State : Type 0} (files : Option FileMap) (is_fetch : FetchRelation Sta
       -- the load with an answer of the fetch is that of the line
       answer_loads : (to : State) (answer : Result (List ℕ) FetchFault) (r : Result (Unit {0}) LoadFault)
           → IfSome files (λ m. IsFileFetched m name answer) → is_fetch from name answer here
-          → IsLoad OutOfMemory (AreBetween here to) (answer_part answer) (λ _. excerpt_in after) r
-          → IsLoad OutOfMemory (AreBetween from to) (include depth) (λ _. excerpt_in after) r
+          → IsPartLoad OutOfMemory (AreBetween here to) (answer_part answer) (λ _. excerpt_in after) r
+          → IsPartLoad OutOfMemory (AreBetween from to) (include depth) (λ _. excerpt_in after) r
       answer_loads to answer r may made h =
           load_ends OutOfMemory from here to (include depth) (answer_part answer) (λ _. excerpt_in after) r
           (subst (λ n. LoadContinuesAs (AreBetween from here) (include n) (answer_part answer)) deeper
@@ -287,7 +287,7 @@ module _ {State : Type 0} (files : Option FileMap) (is_fetch : FetchRelation Sta
 
       pub failed_ends : IfSome files (λ m. IsFileFetched m name (Err fetch.Failed))
           → is_fetch from name (Err fetch.Failed) here
-          → IsLoad {T = Unit {0}} OutOfMemory (AreBetween from here) (include depth) (λ _. excerpt_in after)
+          → IsPartLoad {T = Unit {0}} OutOfMemory (AreBetween from here) (include depth) (λ _. excerpt_in after)
           (Err ReadFailed)
       failed_ends may made =
           answer_loads here (Err fetch.Failed) (Err ReadFailed) may made
@@ -298,7 +298,7 @@ module _ {State : Type 0} (files : Option FileMap) (is_fetch : FetchRelation Sta
       pub absent_loads : (r : Result (Unit {0}) LoadFault) → IfSome files (λ m. IsFileFetched m name (Err fetch.Absent))
           → is_fetch from name (Err fetch.Absent) here
           → IsExcerptPut before (line_with_notice includer line (codes "no file: " ++ name)) r after
-          → IsLoad OutOfMemory (AreBetween from here) (include depth) (λ _. excerpt_in after) r
+          → IsPartLoad OutOfMemory (AreBetween from here) (include depth) (λ _. excerpt_in after) r
       absent_loads r may made put =
           answer_loads here (Err fetch.Absent) r may made
           (excerpt_loads (AreBetween here here) before after
@@ -307,7 +307,7 @@ module _ {State : Type 0} (files : Option FileMap) (is_fetch : FetchRelation Sta
       pub long_loads : (r : Result (Unit {0}) LoadFault) → IfSome files (λ m. IsFileFetched m name (Err fetch.TooLong))
           → is_fetch from name (Err fetch.TooLong) here
           → IsExcerptPut before (line_with_notice includer line (codes "file too long: " ++ name)) r after
-          → IsLoad OutOfMemory (AreBetween from here) (include depth) (λ _. excerpt_in after) r
+          → IsPartLoad OutOfMemory (AreBetween from here) (include depth) (λ _. excerpt_in after) r
       long_loads r may made put =
           answer_loads here (Err fetch.TooLong) r may made
           (excerpt_loads (AreBetween here here) before after
@@ -317,9 +317,9 @@ module _ {State : Type 0} (files : Option FileMap) (is_fetch : FetchRelation Sta
       pub read_loads : (to : State) (mid : Draft) (bytes : List ℕ) (r : Result (Unit {0}) LoadFault)
           → IfSome files (λ m. IsFileFetched m name (Ok bytes)) → is_fetch from name (Ok bytes) here
           → IsExcerptPut before (line_without_notice line) (Ok tt) mid
-          → IsLoad OutOfMemory (AreBetween here to) (load_above (depth - 1) name bytes (excerpt_in mid))
+          → IsPartLoad OutOfMemory (AreBetween here to) (load_above (depth - 1) name bytes (excerpt_in mid))
           (λ _. excerpt_in after) r
-          → IsLoad OutOfMemory (AreBetween from to) (include depth) (λ _. excerpt_in after) r
+          → IsPartLoad OutOfMemory (AreBetween from to) (include depth) (λ _. excerpt_in after) r
       read_loads to mid bytes r may made put h =
           answer_loads to (Ok bytes) r may made
           (load_ends OutOfMemory here here to (answer_part (Ok bytes))
@@ -335,7 +335,7 @@ module _ {State : Type 0} (files : Option FileMap) (is_fetch : FetchRelation Sta
       pub line_fails : (now : Draft) (bytes : List ℕ) (fault : LoadFault)
           → IfSome files (λ m. IsFileFetched m name (Ok bytes)) → is_fetch from name (Ok bytes) here
           → IsExcerptPut before (line_without_notice line) (Err fault) now
-          → IsLoad {T = Unit {0}} OutOfMemory (AreBetween from here) (include depth) (λ _. excerpt_in after) (Err fault)
+          → IsPartLoad {T = Unit {0}} OutOfMemory (AreBetween from here) (include depth) (λ _. excerpt_in after) (Err fault)
       line_fails now bytes fault may made put =
           answer_loads here (Ok bytes) (Err fault) may made
           (load_fails_in_turn {T = Unit {0}} OutOfMemory (AreBetween here here)

@@ -56,11 +56,12 @@ AreFetchesBetween is_fetch from to [] = to ≡ from
 AreFetchesBetween is_fetch from to (fetch ∷ fetches) =
     (next : _) × is_fetch from fetch.name fetch.answer next × AreFetchesBetween is_fetch next to fetches
 
--- a transcript has all fetches between two states of the files, in order, and their answers are those of the files
-abbrev pub IsTranscript : {State : Type 0} → Option FileMap → FetchRelation State → (from to : State)
+-- a part of a transcript has all fetches between two states of the files, in order, and their answers are those of the
+-- files
+abbrev pub IsPartTranscript : {State : Type 0} → Option FileMap → FetchRelation State → (from to : State)
     → List TranscriptFetch
     → Type 0
-IsTranscript files is_fetch from to transcript =
+IsPartTranscript files is_fetch from to transcript =
     AreTranscriptAnswersOf files transcript × AreFetchesBetween is_fetch from to transcript
 
 -- a load uses up some fetches, of which `are_made` holds, and then continues as another load
@@ -76,12 +77,12 @@ abbrev pub HasTranscript : {E : Type 0} → (List TranscriptFetch → Type 0) �
     → Result Excerpt E → Type 0
 HasTranscript are_made load outcome = LoadContinuesAs are_made load (load_outcome outcome)
 
--- the result of a load is an outcome that it may have, or `wanting` if memory runs out; a success leaves the lines and
--- notices `left`
-abbrev pub IsLoad : {T E : Type 0} → E → (List TranscriptFetch → Type 0) → (List TranscriptFetch → Load E)
+-- the result of a part of a load is an outcome that it may have, or `wanting` if memory runs out; a success leaves the
+-- lines and notices `left`
+abbrev pub IsPartLoad : {T E : Type 0} → E → (List TranscriptFetch → Type 0) → (List TranscriptFetch → Load E)
     → (T → Excerpt) → Result T E
     → Type 0
-IsLoad wanting are_made load left result =
+IsPartLoad wanting are_made load left result =
     MatchResult result (λ value. HasTranscript are_made load (Ok (left value)))
     (λ fault. (fault ≡ wanting) ⊎ HasTranscript are_made load (Err fault))
 
@@ -90,3 +91,33 @@ abbrev pub load_faults_after_fetches : ℕ → List TranscriptFetch → ℕ
 load_faults_after_fetches faults [] = faults
 load_faults_after_fetches faults (fetch ∷ fetches) =
     load_faults_after_fetches (faults_after_fetch faults fetch.answer) fetches
+
+-- a view of files: the bytes of each, if they are known, the count of failed fetches, and which fetches lead from one
+-- state to another
+pub record FilesModel (State : Type 0) : Type 1 where
+  pub bytes : State → Option FileMap
+  pub faults : State → ℕ
+  pub is_fetch : FetchRelation State
+
+-- the view by these three functions
+abbrev pub files_model : {State : Type 0} → (State → Option FileMap) → (State → ℕ) → FetchRelation State
+    → FilesModel State
+files_model bytes faults is_fetch = record { bytes = bytes; faults = faults; is_fetch = is_fetch }
+
+-- a transcript has all fetches between two states of the files, in order; their answers are those of the files, and the
+-- failed ones are counted
+abbrev pub IsTranscript : {State : Type 0} → FilesModel State → (from to : State) → List TranscriptFetch → Type 0
+IsTranscript model from to transcript =
+    IsPartTranscript (model.bytes from) model.is_fetch from to transcript
+    × (model.faults to ≡ load_faults_after_fetches (model.faults from) transcript)
+
+-- the result of a load between two states of the files is an outcome that it may have with a transcript of its fetches;
+-- or it is `wanting` if memory runs out, and then no failed fetch was counted. A success leaves the lines and notices
+-- `left`
+abbrev pub IsLoad : {State T E : Type 0} → FilesModel State → (from to : State) → E → (List TranscriptFetch → Load E)
+    → (T → Excerpt) → Result T E
+    → Type 0
+IsLoad model from to wanting load left result =
+    MatchResult result (λ value. HasTranscript (IsTranscript model from to) load (Ok (left value)))
+    (λ fault. ((fault ≡ wanting) × (model.faults to ≡ model.faults from))
+    ⊎ HasTranscript (IsTranscript model from to) load (Err fault))

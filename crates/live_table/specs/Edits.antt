@@ -2,7 +2,6 @@
 use Rattle.std.specs.Prelude.{◌≡◌, ◌⊎◌, ℕ, List, Option, Result, Ok, Err}
 use Rattle.std.specs.declared.alloc.AllocError.{AllocError}
 use Rattle.deck.specs.Decks.{DeckContents}
-use Rattle.deck.specs.FileLoads.{MayDeckLoadFailWith}
 use Rattle.deck.specs.Splices.{deck_after_splicing, inverse_deck_splice}
 use Rattle.deck.specs.LineRemoval.{IsTextOfLastDeckLine, deck_place_of_defined_key, deck_without_last_line}
 use Rattle.deck.specs.declared.fault.DeckFault.{DeckFault}
@@ -40,9 +39,3 @@ IsLiveSpliceOf s old new (Ok undo) =
     × IsAcceptedLiveEdit old
     new
 IsLiveSpliceOf s old new (Err refusal) = (new ≡ old) × (refusal.0 ≡ s)
-
--- an edit that reads files yields the deck of this outcome, fails for its reason, or fails as `MayDeckLoadFailWith`
--- allows
-abbrev pub IsLiveAppendOf : Result DeckContents DeckFault → LiveView → Result (Unit {0}) DeckFault → Type 0
-IsLiveAppendOf outcome new (Ok _) = outcome ≡ Ok new.deck
-IsLiveAppendOf outcome new (Err fault) = MayDeckLoadFailWith fault ⊎ (outcome ≡ Err fault)

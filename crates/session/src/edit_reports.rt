@@ -1,8 +1,12 @@
 //! Edits of the deck of a session, and the reports on watched conversions that they change.
 
-ghost use Rattle.std.specs.Prelude.{◌≡◌, Some, IfOk, IsErrOf, [], false};
+ghost use Rattle.std.specs.Prelude.{◌≡◌, Some, IfOk, IfErr, IsErrOf, OnOk, OnErr, [], false, true};
 ghost use Rattle.units_io.specs.FileMap.{FileMap};
 ghost use Rattle.units_io.specs.Faults.{HasIoCountRisen};
+ghost use Rattle.deck.specs.FileLoads as loading;
+ghost use Rattle.live_table.specs.Calls.{IsAcceptedLiveEdit};
+ghost use Rattle.edit_history.specs.Calls.{IsEditRecorded};
+ghost use Rattle.edit_history.specs.Histories.{IsHistoryOf};
 ghost use Rattle.session.specs.AnswerEffects.{AnswerFailsOnlyForMemory, fetch_faults_after_answer};
 ghost use Rattle.session.specs.Answers.{session_edit_answer};
 ghost use Rattle.session.specs.Commands as commands;
@@ -20,7 +24,9 @@ use crate::fault::SessionFault;
 use crate::lines::notice_lines;
 use crate::session_watches::report_changes;
 use crate::workspace::Workspace;
-use edit_history::histories_are_timelines;
+use deck::{DeckFault, transcripts_determine_loads};
+use edit_history::{History, histories_are_timelines};
+use live_table::LiveTable;
 use std::alloc::Global;
 use std::sync::ledger::Ledger;
 use units_io::{Files, Steps, Text};
@@ -82,7 +88,7 @@ impl Workspace {
         ensures unwritten { IsErrOf result SessionFault.WriteFailed → ⊥ }
     {
         histories_are_timelines();
-        match self.history.append(alloc, &mut self.table, files, name) {
+        match append_file(alloc, &mut self.history, &mut self.table, files, name) {
             Ok(()) => {
                 let report = report_changes(
                     alloc,
@@ -101,4 +107,29 @@ impl Workspace {
             Err(fault) => Ok(output_reply(alloc, refusal_line(alloc, fault, name)?)),
         }
     }
+}
+
+// Appends the deck of a file to a table, and records the edit. If the files are known, they determine the deck or the
+// error, unless a fetch fails or memory runs out.
+fn append_file<F: Files>(
+    alloc: Global,
+    history: &mut History,
+    table: &mut LiveTable,
+    files: &mut F,
+    name: &[u8],
+) -> Result<(), DeckFault>
+    requires { IsHistoryOf history.old table.old.deck }
+    ensures follows { IsHistoryOf history.new table.new.deck }
+    ensures known { (m : FileMap) → F.files files.old ≡ Some m
+        → loading.IsDeckAppended (loading.deck_after_appending m name.now table.old.deck) table.new.deck result }
+    ensures ok { OnOk result (IsAcceptedLiveEdit table.old table.new) }
+    ensures err { OnErr result (table.new ≡ table.old) }
+    ensures answers { IfErr result (λ fault. loading.is_deck_load_fault fault ≡ true) }
+    ensures kept { F.files files.new ≡ F.files files.old }
+    ensures stores { F.store_faults files.new ≡ F.store_faults files.old }
+    ensures counted { F.faults files.new ≡ loading.fetch_faults_after_deck_load (F.faults files.old) result }
+    ensures noted { IsEditRecorded history.old history.new table.old.deck table.new.deck result }
+{
+    transcripts_determine_loads::<F>();
+    history.append(alloc, table, files, name)
 }

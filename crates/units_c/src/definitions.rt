@@ -5,7 +5,7 @@ ghost use Rattle.deck.specs.FileLoads.{IsDeckLoaded};
 ghost use Rattle.units_c.specs.Definitions as spec;
 ghost use Rattle.units_io.specs.FileMap.{no_files_in_map};
 
-use deck::{Deck, DeckFault, Settings};
+use deck::{Deck, DeckFault, Settings, transcripts_determine_loads};
 use std::alloc::{AllocError, Global};
 use units_io::{HashSeed, MemFiles, Text, Vars};
 
@@ -42,6 +42,7 @@ pub(crate) fn read_deck(
     let mut files = MemFiles::new(alloc, &[])?;
     put_files(alloc, &mut files, definitions.files)?;
     let settings = read_settings(alloc, definitions)?;
+    transcripts_determine_loads::<MemFiles>();
     Deck::load(alloc, &mut files, definitions.main, settings)
 }
 

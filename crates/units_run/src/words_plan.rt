@@ -13,7 +13,7 @@ ghost use Rattle.units_run.specs.ProgramPlans.{IsPlanned, IsPossiblePlan};
 ghost use Rattle.units_run.specs.Settings as settings;
 ghost use Rattle.units_run.specs.Work as spec;
 
-use crate::definitions::{built_in_deck, settings_of};
+use crate::definitions::{built_in_deck, load_deck, settings_of};
 use crate::halt::Halt;
 use crate::no_deck::no_deck_plan;
 use crate::options::options_of;
@@ -21,7 +21,7 @@ use crate::plan::Plan;
 use crate::status::Status;
 use crate::work::work;
 use command_line::{CommandLine, WordsFault, read_words, usage_text};
-use deck::{Deck, Settings};
+use deck::Settings;
 use session::{Said, run_trial};
 use std::alloc::{AllocError, Global};
 use std::sync::ledger::Ledger;
@@ -131,7 +131,7 @@ fn deck_plan<F: Files, L: Ledger>(
         let deck = built_in_deck(alloc, settings)?;
         return Ok(work(alloc, line, deck, steps)?);
     };
-    match Deck::load(alloc, files, name.as_bytes(), settings) {
+    match load_deck(alloc, files, name.as_bytes(), settings) {
         Ok(deck) => Ok(work(alloc, line, deck, steps)?),
         Err(fault) => no_deck_plan(alloc, &fault, name.as_bytes()),
     }

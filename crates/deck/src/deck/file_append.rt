@@ -1,15 +1,12 @@
 //! Appending the deck of a file to a deck.
 
-ghost use Rattle.std.specs.Prelude.{◌≡◌, ◌⊎◌, ◌≤◌, [], Some, Ok, Err, true, false, IfOk, IfErr, MatchResult, OnOk};
-ghost use Rattle.std.specs.Prelude.{OnErr};
-ghost use Rattle.units_io.specs.FileMap.{FileMap};
+ghost use Rattle.std.specs.Prelude.{◌≡◌, ◌≤◌, [], true, false, IfOk, IfErr, OnOk, OnErr};
 ghost use Rattle.deck_lines.specs.Limits.{pass_store_limit};
 ghost use Rattle.deck_lines.specs.Loads.{ExtendsStore};
 ghost use Rattle.deck_lines.specs.KeyNumbering.{IsKeyNumbering};
 ghost use Rattle.deck_lines.specs.LineLoads.{excerpt_in};
-ghost use Rattle.deck_lines.specs.Transcripts.{IsLoad, IsTranscript};
+ghost use Rattle.deck_lines.specs.Transcripts.{IsLoad, files_model};
 ghost use Rattle.deck.specs.Changes.{IsDeckTableChange, IsEditChange};
-ghost use Rattle.deck.specs.Decks.{DeckContents};
 ghost use Rattle.deck.specs.LastPlaces.{IsDeckIndexed};
 ghost use Rattle.deck.specs.FileLoads as loading;
 ghost use Rattle.deck.specs.Tables.{active_definitions, table_of_deck_definitions};
@@ -20,7 +17,7 @@ use super::file_load::load_file;
 use crate::fault::DeckFault;
 use crate::places::{LastPlaces, changed_keys};
 use crate::settings::Settings;
-use deck_lines::{Draft, LineStore, Notices};
+use deck_lines::{Draft, LineStore, Notices, failed_fetches_end_loads};
 use def_entry::Keys;
 use std::alloc::Global;
 use std::mem;
@@ -36,9 +33,7 @@ impl Deck {
         files: &mut F,
         name: &[u8],
     ) -> Result<Keys, DeckFault>
-        ensures told { (m : FileMap) → F.files files.old ≡ Some m
-            → loading.IsDeckAppended (loading.deck_after_appending m name.now self.old) self.new result }
-        ensures loads { IsLoad OutOfMemory (IsTranscript (F.files files.old) F.is_fetch files.old files.new)
+        ensures loads { IsLoad (files_model F.files F.faults F.is_fetch) files.old files.new OutOfMemory
             (loading.deck_load_of_name name.now (loading.deck_excerpt_of_lines self.old.lines))
             (λ _. loading.excerpt_of_deck self.new) result }
         ensures changed { IfOk result (λ keys. IsEditChange self.old self.new keys) }
@@ -47,7 +42,6 @@ impl Deck {
         ensures answers { IfErr result (λ fault. loading.is_deck_load_fault fault ≡ true) }
         ensures kept { F.files files.new ≡ F.files files.old }
         ensures stores { F.store_faults files.new ≡ F.store_faults files.old }
-        ensures counted { F.faults files.new ≡ loading.fetch_faults_after_deck_load (F.faults files.old) result }
     {
         self.covered_lines = None;
         let FileEnd { changes, notices } = append_file(
@@ -88,12 +82,7 @@ fn append_file<F: Files>(
     name: &[u8],
 ) -> Result<FileEnd, DeckFault>
     requires { IsDeckIndexed store.old settings.now last.now }
-    ensures told { (m : FileMap) (d : DeckContents) → F.files files.old ≡ Some m → d.lines ≡ store.old.lines →
-        MatchResult result
-        (λ end. loading.deck_after_appending m name.now d
-        ≡ Ok (record d { lines = store.new.lines; notices = end.notices }))
-        (λ fault. loading.MayDeckLoadFailWith fault ⊎ (loading.deck_after_appending m name.now d ≡ Err fault)) }
-    ensures loads { IsLoad OutOfMemory (IsTranscript (F.files files.old) F.is_fetch files.old files.new)
+    ensures loads { IsLoad (files_model F.files F.faults F.is_fetch) files.old files.new OutOfMemory
         (loading.deck_load_of_name name.now (loading.deck_excerpt_of_lines store.old.lines))
         (λ end. record { lines = store.new.lines; notices = end.notices }) result }
     ensures indexed { IfOk result (λ end. IsDeckIndexed store.new settings.now end.changes.last) }
@@ -105,7 +94,6 @@ fn append_file<F: Files>(
     ensures answers { IfErr result (λ fault. loading.is_deck_load_fault fault ≡ true) }
     ensures kept { F.files files.new ≡ F.files files.old }
     ensures stores { F.store_faults files.new ≡ F.store_faults files.old }
-    ensures counted { F.faults files.new ≡ loading.fetch_faults_after_deck_load (F.faults files.old) result }
 {
     let len = store.len();
     let mut draft = draft_of(alloc, store);
@@ -145,10 +133,7 @@ fn load_changes<F: Files>(
     requires notices { draft.old.notices ≡ [] }
     requires indexed { IsDeckIndexed draft.old.store settings.now last.now }
     requires numbering { IsKeyNumbering draft.old.store }
-    ensures told { (m : FileMap) (d : DeckContents) → F.files files.old ≡ Some m → d.lines ≡ draft.old.store.lines →
-        loading.IsDeckLoadRead (loading.deck_after_appending m name.now d) d draft.new.store.lines draft.new.notices
-        result }
-    ensures loads { IsLoad OutOfMemory (IsTranscript (F.files files.old) F.is_fetch files.old files.new)
+    ensures loads { IsLoad (files_model F.files F.faults F.is_fetch) files.old files.new OutOfMemory
         (loading.deck_load_of_name name.now (loading.deck_excerpt_of_lines draft.old.store.lines))
         (λ _. excerpt_in draft.new) result }
     ensures within { OnOk result (pass_store_limit draft.new.store.lines ≡ false) }
@@ -160,8 +145,8 @@ fn load_changes<F: Files>(
     ensures answers { IfErr result (λ fault. loading.is_deck_load_fault fault ≡ true) }
     ensures kept { F.files files.new ≡ F.files files.old }
     ensures stores { F.store_faults files.new ≡ F.store_faults files.old }
-    ensures counted { F.faults files.new ≡ loading.fetch_faults_after_deck_load (F.faults files.old) result }
 {
+    failed_fetches_end_loads();
     load_file(alloc, files, draft, name)?;
     let now = LastPlaces::under(alloc, settings, &draft.store)?;
     let keys = changed_keys(alloc, &draft.store, last, &now)?;

@@ -1,12 +1,11 @@
 //! Loading decks from files and texts.
 
-ghost use Rattle.std.specs.Prelude.{◌≡◌, ◌≤◌, [], Some, true, length, IfOk, IfErr, OnOk};
-ghost use Rattle.units_io.specs.FileMap.{FileMap, longest_file};
+ghost use Rattle.std.specs.Prelude.{◌≡◌, ◌≤◌, [], true, length, IfOk, IfErr, OnOk};
+ghost use Rattle.units_io.specs.FileMap.{longest_file};
 ghost use Rattle.deck_lines.specs.ClosedBlocks.{AreBlocksClosed};
 ghost use Rattle.deck_lines.specs.Loads.{ExtendsStore};
 ghost use Rattle.deck_lines.specs.LineLoads.{excerpt_in};
-ghost use Rattle.deck_lines.specs.Transcripts.{IsLoad, IsTranscript};
-ghost use Rattle.deck.specs.Decks.{DeckContents};
+ghost use Rattle.deck_lines.specs.Transcripts.{IsLoad, files_model};
 ghost use Rattle.deck.specs.FileLoads as loading;
 ghost use Rattle.deck.specs.declared.fault.DeckFault.TheVariants.{OutOfMemory};
 
@@ -14,7 +13,7 @@ use super::Deck;
 use crate::fault::DeckFault;
 use crate::no_files::NoFiles;
 use crate::settings::Settings;
-use deck_lines::{Draft, known_files_determine_loads, load_text};
+use deck_lines::{Draft, failed_fetches_end_loads, known_files_determine_loads, load_text};
 use std::alloc::Global;
 use units_io::Files;
 
@@ -32,6 +31,7 @@ impl Deck {
         ensures { loading.IsDeckLoadResult (loading.deck_after_text_loading text.now name.now settings) result }
     {
         known_files_determine_loads();
+        failed_fetches_end_loads();
         let mut draft = Draft::new(alloc, settings.vars.table_seed());
         load_text(alloc, &mut NoFiles::new(), &mut draft, name, text)?;
         Ok(Deck::from_parts(alloc, draft.store, settings, draft.notices)?)
@@ -48,16 +48,14 @@ impl Deck {
         name: &[u8],
         settings: Settings,
     ) -> Result<Deck, DeckFault>
-        ensures told { (m : FileMap) → F.files files.old ≡ Some m
-            → loading.IsDeckLoaded (loading.deck_after_loading m name.now settings) result }
-        ensures loads { IsLoad OutOfMemory (IsTranscript (F.files files.old) F.is_fetch files.old files.new)
+        ensures loads { IsLoad (files_model F.files F.faults F.is_fetch) files.old files.new OutOfMemory
             (loading.deck_load_of_name name.now (loading.deck_excerpt_of_lines [])) loading.excerpt_of_deck result }
         ensures settings { IfOk result (λ d. d.settings ≡ settings) }
         ensures answers { IfErr result (λ fault. loading.is_deck_load_fault fault ≡ true) }
         ensures kept { F.files files.new ≡ F.files files.old }
         ensures stores { F.store_faults files.new ≡ F.store_faults files.old }
-        ensures counted { F.faults files.new ≡ loading.fetch_faults_after_deck_load (F.faults files.old) result }
     {
+        failed_fetches_end_loads();
         let mut draft = Draft::new(alloc, settings.vars.table_seed());
         load_file(alloc, files, &mut draft, name)?;
         Ok(Deck::from_parts(alloc, draft.store, settings, draft.notices)?)
@@ -71,21 +69,14 @@ pub(crate) fn load_file<F: Files>(
     draft: &mut Draft,
     name: &[u8],
 ) -> Result<(), DeckFault>
-    requires { draft.old.notices ≡ [] }
-    ensures told { (m : FileMap) (d : DeckContents) → F.files files.old ≡ Some m → d.lines ≡ draft.old.store.lines
-        → loading.IsDeckLoadRead (loading.deck_after_appending m name.now d) d draft.new.store.lines draft.new.notices
-        result }
-    ensures loads { IsLoad OutOfMemory (IsTranscript (F.files files.old) F.is_fetch files.old files.new)
-        (loading.deck_load_of_name name.now (excerpt_in draft.old))
-        (λ _. excerpt_in draft.new) result }
+    ensures loads { IsLoad (files_model F.files F.faults F.is_fetch) files.old files.new OutOfMemory
+        (loading.deck_load_of_name name.now (excerpt_in draft.old)) (λ _. excerpt_in draft.new) result }
     ensures extends { ExtendsStore draft.old.store draft.new.store }
     ensures closed { OnOk result (AreBlocksClosed draft.old.store.lines → AreBlocksClosed draft.new.store.lines) }
     ensures answers { IfErr result (λ fault. loading.is_deck_load_fault fault ≡ true) }
     ensures kept { F.files files.new ≡ F.files files.old }
     ensures stores { F.store_faults files.new ≡ F.store_faults files.old }
-    ensures counted { F.faults files.new ≡ loading.fetch_faults_after_deck_load (F.faults files.old) result }
 {
-    known_files_determine_loads();
     let text = files.fetch(alloc, name)?;
     load_text(alloc, files, draft, name, text.as_bytes())?;
     Ok(())

@@ -12,7 +12,7 @@ ghost use Rattle.deck_lines.specs.LineLoads.{load_of_line};
 ghost use Rattle.deck_lines.specs.Loads.{ExtendsStore, IsExcerptPut, LeadsBetweenBlocks, block_endings};
 ghost use Rattle.deck_lines.specs.Marks.{plain_store_line};
 ghost use Rattle.deck_lines.specs.Readings.{entry_in_store_line, store_line_reading_of};
-ghost use Rattle.deck_lines.specs.Transcripts.{IsLoad, IsTranscript};
+ghost use Rattle.deck_lines.specs.Transcripts.{IsLoad, IsPartLoad, IsPartTranscript, files_model};
 ghost use Rattle.deck_lines.specs.declared.draft.LoadFault.TheVariants.{OutOfMemory};
 ghost use Rattle.deck_lines.specs.declared.line.Role.TheVariants.{Inside};
 
@@ -43,13 +43,12 @@ pub fn load_text<F: Files>(
     bytes: &[u8],
 ) -> Result<(), LoadFault>
     requires { length bytes.now ≤ longest_file }
-    ensures loads { IsLoad OutOfMemory (IsTranscript (F.files files.old) F.is_fetch files.old files.new)
+    ensures loads { IsLoad (files_model F.files F.faults F.is_fetch) files.old files.new OutOfMemory
         (load_of_file name.now bytes.now (excerpt_in draft.old)) (λ _. excerpt_in draft.new) result }
     ensures extends { ExtendsStore draft.old.store draft.new.store }
     ensures closed { OnOk result (AreBlocksClosed draft.old.store.lines → AreBlocksClosed draft.new.store.lines) }
     ensures kept { F.files files.new ≡ F.files files.old }
     ensures stores { F.store_faults files.new ≡ F.store_faults files.old }
-    ensures counted { F.faults files.new ≡ faults_after_load (F.faults files.old) result }
 {
     load_file(alloc, files, draft, name, bytes, MOST_DEPTH)
 }
@@ -65,7 +64,7 @@ fn load_file<F: Files>(
     depth: u8,
 ) -> Result<(), LoadFault>
     requires { length bytes.now ≤ longest_file }
-    ensures loads { IsLoad OutOfMemory (IsTranscript (F.files files.old) F.is_fetch files.old files.new)
+    ensures loads { IsPartLoad OutOfMemory (IsPartTranscript (F.files files.old) F.is_fetch files.old files.new)
         (load_above depth name.now bytes.now (excerpt_in draft.old)) (λ _. excerpt_in draft.new) result }
     ensures leads { LeadsBetweenBlocks [] [] draft.old.store draft.new.store result }
     ensures kept { F.files files.new ≡ F.files files.old }
@@ -92,7 +91,7 @@ fn load_line<F: Files>(
     blocks: &mut Vec<Block>,
     line: Line,
 ) -> Result<(), LoadFault>
-    ensures loads { IsLoad OutOfMemory (IsTranscript (F.files files.old) F.is_fetch files.old files.new)
+    ensures loads { IsPartLoad OutOfMemory (IsPartTranscript (F.files files.old) F.is_fetch files.old files.new)
         (load_of_line (λ word. load_below depth name.now (included_name name.now word)) name.now
         (reverse blocks.old.items) line (store_line_reading_of line.text) (excerpt_in draft.old))
         (λ _. excerpt_in draft.new) result }
@@ -130,7 +129,7 @@ fn load_include<F: Files>(
 ) -> Result<(), LoadFault>
     requires role { block_role_of_kind (kind_of_line line.text) ≡ Inside }
     requires entry { entry_in_store_line (plain_store_line line.number line.text) ≡ None }
-    ensures loads { IsLoad OutOfMemory (IsTranscript (F.files files.old) F.is_fetch files.old files.new)
+    ensures loads { IsPartLoad OutOfMemory (IsPartTranscript (F.files files.old) F.is_fetch files.old files.new)
         (load_below depth name.now file line (excerpt_in draft.old)) (λ _. excerpt_in draft.new) result }
     ensures leads { LeadsBetweenBlocks [] [] draft.old.store draft.new.store result }
     ensures kept { F.files files.new ≡ F.files files.old }

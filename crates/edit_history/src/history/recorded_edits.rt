@@ -1,9 +1,8 @@
 //! Edits that the history records.
 
-ghost use Rattle.std.specs.Prelude.{◌≡◌, true, Some, IfErr, OnErr, OnOk};
-ghost use Rattle.units_io.specs.FileMap.{FileMap};
+ghost use Rattle.std.specs.Prelude.{◌≡◌, true, IfErr, OnErr, OnOk};
 ghost use Rattle.def_lines.specs.Blanks.{trimmed_of_blanks};
-ghost use Rattle.deck_lines.specs.Transcripts.{IsLoad, IsTranscript};
+ghost use Rattle.deck_lines.specs.Transcripts.{IsLoad, files_model};
 ghost use Rattle.deck.specs.Edits as deck_edit;
 ghost use Rattle.deck.specs.FileLoads as loading;
 ghost use Rattle.deck.specs.declared.fault.DeckFault.TheVariants.{OutOfMemory};
@@ -116,18 +115,15 @@ impl History {
     ) -> Result<(), DeckFault>
         requires { IsHistoryOf self.old table.old.deck }
         ensures follows { IsHistoryOf self.new table.new.deck }
-        ensures told { (m : FileMap) → F.files files.old ≡ Some m
-            → edit.IsLiveAppendOf (loading.deck_after_appending m name.now table.old.deck) table.new result }
         ensures ok { OnOk result (IsAcceptedLiveEdit table.old table.new) }
         ensures settings { table.new.deck.settings ≡ table.old.deck.settings }
         ensures err { OnErr result (table.new ≡ table.old) }
         ensures answers { IfErr result (λ fault. loading.is_deck_load_fault fault ≡ true) }
         ensures kept { F.files files.new ≡ F.files files.old }
         ensures stores { F.store_faults files.new ≡ F.store_faults files.old }
-        ensures loads { IsLoad OutOfMemory (IsTranscript (F.files files.old) F.is_fetch files.old files.new)
+        ensures loads { IsLoad (files_model F.files F.faults F.is_fetch) files.old files.new OutOfMemory
             (loading.deck_load_of_name name.now (loading.deck_excerpt_of_lines table.old.deck.lines))
             (λ _. loading.excerpt_of_deck table.new.deck) result }
-        ensures counted { F.faults files.new ≡ loading.fetch_faults_after_deck_load (F.faults files.old) result }
         ensures noted { calls.IsEditRecorded self.old self.new table.old.deck table.new.deck result }
     {
         appends_keep_lines();

@@ -1,9 +1,8 @@
 //! Edits of the deck, which forget the outcomes that they affect.
 
-ghost use Rattle.std.specs.Prelude.{◌≡◌, Some, Ok, true, IfErr, OnOk, OnErr};
-ghost use Rattle.units_io.specs.FileMap.{FileMap};
+ghost use Rattle.std.specs.Prelude.{◌≡◌, Ok, true, IfErr, OnOk, OnErr};
 ghost use Rattle.def_lines.specs.Blanks.{trimmed_of_blanks};
-ghost use Rattle.deck_lines.specs.Transcripts.{IsLoad, IsTranscript};
+ghost use Rattle.deck_lines.specs.Transcripts.{IsLoad, files_model};
 ghost use Rattle.deck.specs.Edits as deck_edit;
 ghost use Rattle.deck.specs.FileLoads as loading;
 ghost use Rattle.deck.specs.Splices.{CanSpliceDeck};
@@ -119,18 +118,15 @@ impl LiveTable {
         files: &mut F,
         name: &[u8],
     ) -> Result<(), DeckFault>
-        ensures told { (m : FileMap) → F.files files.old ≡ Some m
-            → edit.IsLiveAppendOf (loading.deck_after_appending m name.now self.old.deck) self.new result }
         ensures ok { OnOk result (IsAcceptedLiveEdit self.old self.new) }
         ensures settings { self.new.deck.settings ≡ self.old.deck.settings }
         ensures err { OnErr result (self.new ≡ self.old) }
         ensures answers { IfErr result (λ fault. loading.is_deck_load_fault fault ≡ true) }
         ensures kept { F.files files.new ≡ F.files files.old }
         ensures stores { F.store_faults files.new ≡ F.store_faults files.old }
-        ensures loads { IsLoad OutOfMemory (IsTranscript (F.files files.old) F.is_fetch files.old files.new)
+        ensures loads { IsLoad (files_model F.files F.faults F.is_fetch) files.old files.new OutOfMemory
             (loading.deck_load_of_name name.now (loading.deck_excerpt_of_lines self.old.deck.lines))
             (λ _. loading.excerpt_of_deck self.new.deck) result }
-        ensures counted { F.faults files.new ≡ loading.fetch_faults_after_deck_load (F.faults files.old) result }
     {
         link_waiting(alloc, &self.deck, &self.nodes, &mut self.edges)?;
         let keys = self.deck.append(alloc, files, name)?;

@@ -21,7 +21,7 @@ returns-in-Err-clause-told g c = λ m s.
     missing.ensures.fault
     (subst (λ (name : List ℕ). IsDeckLoaded (deck_after_loading m name c.args.settings) (Err c.in-Err.fault))
     c.as_bytes.ensures
-    (c.in-Err.ensures.told m
+    (c.in-Err.ensures.known m
     (needed_run_value_is_known (is_some line.file) (g.F.Files.files c.args.files.now) m (ap is_some c.in-Some.is) s)))
     (subst (λ (name : List ℕ). IsPlanned (complaint_plan (no_deck_run_line c.in-Err.fault name) NoFile) m missing.result
     n n)

@@ -1,10 +1,6 @@
-use Rattle.std.proofs.Common.{◌∙◌, ap, subst, sym}
+use Rattle.std.proofs.Common.{◌∙◌, subst}
 use Rattle.deck_lines.specs.Loads.{ExtendsStore}
 use Rattle.deck_lines.specs.Stores.{LineStoreView}
-use Rattle.std.specs.Prelude.{Result}
-use Rattle.deck.specs.FileLoads.{IsDeckLoadRead, deck_after_appending}
-use Rattle.deck.specs.declared.deck.file_append.PlaceChanges.{PlaceChanges}
-use Rattle.deck.specs.declared.fault.DeckFault.{DeckFault}
 use Rattle.deck.proofs.MoreNumbers.{deck_indexed_after_refusal, old_deck_lines_are_front}
 use Rattle.deck.proofs.deck.file_append.append_file.Goals as goal
 
@@ -20,10 +16,3 @@ returns-in-Err-clause-stays g c =
     ∙ old_deck_lines_are_front c.args.store.now c.load_changes-changes.new.draft.store c.len-len.result
     c.len-len.ensures.count
     behind) c.truncate.ensures.names
-
-pub returns-in-Err-clause-told : goal.returns-in-Err-clause-told
-returns-in-Err-clause-told g c m d told lines =
-    subst (λ (r : Result PlaceChanges DeckFault). IsDeckLoadRead (deck_after_appending m c.args.name.now d) d
-    c.load_changes-changes.new.draft.store.lines c.load_changes-changes.new.draft.notices r)
-    c.in-Err.is (c.load_changes-changes.ensures.told m d told
-    (lines ∙ sym (ap (λ (s : LineStoreView). s.lines) c.draft_of-draft.ensures.store)))

@@ -1,3 +1,9 @@
+use Rattle.std.proofs.lemmas.Result.{err_from_is_err_and}
+use Rattle.deck_lines.specs.LineLoads.{excerpt_in}
+use Rattle.deck_lines.specs.Transcripts.{files_model}
+use Rattle.deck.specs.FileLoads.{deck_excerpt_of_lines, deck_load_of_name}
+use Rattle.deck.specs.declared.deck.file_append.PlaceChanges.{PlaceChanges}
+use Rattle.deck.proofs.LoadConsequences.{load_without_memory}
 use Rattle.deck.specs.Tables.{active_definitions}
 use Rattle.deck.proofs.MoreNumbers.{definitions_in_place_extended, last_definition_places_grown}
 use Rattle.deck.proofs.PlacedDefinitions.{active_definitions_in_place}
@@ -13,3 +19,21 @@ returns-clause-changed g c =
     (last_definition_places_grown c.args.draft.now.store c.load_file.new.draft.store c.args.settings.now c.args.last.now
     c.requires.numbering c.requires.indexed.places c.load_file.ensures.extends)
     c.in_ok-now.ensures.last
+
+pub returns-in_err-now-clause-loads : goal.returns-in_err-now-clause-loads
+returns-in_err-now-clause-loads g c =
+    let p = err_from_is_err_and c.from_residual-in_err-now.result c.from_residual-in_err-now.ensures.1 in
+    rw (p.1, p.2) (load_without_memory (files_model g.F.Files.files g.F.Files.faults g.F.Files.is_fetch)
+    c.failed_fetches_end_loads.ensures.failed c.args.files.now c.load_file.new.files c.args.name.now
+    (excerpt_in c.args.draft.now) (excerpt_in c.load_file.new.draft)
+    (deck_load_of_name c.args.name.now (deck_excerpt_of_lines c.args.draft.now.store.lines))
+    (λ (_ : PlaceChanges). excerpt_in c.load_file.new.draft) c.in_ok-load_file.ensures.loads)
+
+pub returns-in_err-keys-clause-loads : goal.returns-in_err-keys-clause-loads
+returns-in_err-keys-clause-loads g c =
+    let p = err_from_is_err_and c.from_residual-in_err-keys.result c.from_residual-in_err-keys.ensures.1 in
+    rw (p.1, p.2) (load_without_memory (files_model g.F.Files.files g.F.Files.faults g.F.Files.is_fetch)
+    c.failed_fetches_end_loads.ensures.failed c.args.files.now c.load_file.new.files c.args.name.now
+    (excerpt_in c.args.draft.now) (excerpt_in c.load_file.new.draft)
+    (deck_load_of_name c.args.name.now (deck_excerpt_of_lines c.args.draft.now.store.lines))
+    (λ (_ : PlaceChanges). excerpt_in c.load_file.new.draft) c.in_ok-load_file.ensures.loads)

@@ -6,7 +6,7 @@ use Rattle.deck_lines.specs.LineLoads.{excerpt_in, load_above, load_below, load_
 use Rattle.deck_lines.specs.Loads.{LeadsBetweenBlocks, block_endings}
 use Rattle.deck_lines.specs.Marks.{plain_store_line}
 use Rattle.deck_lines.specs.Readings.{Defines, Faulty, Includes, Stands, store_line_reading_of}
-use Rattle.deck_lines.specs.Transcripts.{IsLoad, IsTranscript}
+use Rattle.deck_lines.specs.Transcripts.{IsPartLoad, IsPartTranscript}
 use Rattle.deck_lines.specs.Views.{seen_store_line_reading}
 use Rattle.deck_lines.specs.declared.draft.LoadFault.TheVariants.{OutOfMemory}
 use Rattle.deck_lines.proofs.DraftAppends.{leads_to_blocks_trans, store_with_lines-nil}
@@ -31,7 +31,7 @@ load_file-loop-blocks-init g t c = record {
   };
   continues =
       load_continues_at_once
-      (IsTranscript (g.F.Files.files c.args.files.now) g.F.Files.is_fetch c.args.files.now c.args.files.now)
+      (IsPartTranscript (g.F.Files.files c.args.files.now) g.F.Files.is_fetch c.args.files.now c.args.files.now)
       (load_above c.args.depth c.args.name.now c.args.bytes.now (excerpt_in c.args.draft.now))
       (load_of_rest (λ word. load_below c.args.depth c.args.name.now (included_name c.args.name.now word))
       c.args.name.now (reverse c.new-blocks.result.items) (nonblank_lines c.new-lines.result)
@@ -73,8 +73,8 @@ load_file-loop-blocks-preserved g t c =
           (nonblank_lines c.take_shown.new.self) c.in_ok-line-2.line taken c.load_line.new.files c.load_line.new.draft
           (reverse c.load_line.new.blocks.items)
           c.in_ok-load_line.ensures.blocks
-          (subst (λ files. IsLoad {T = Unit {0}} OutOfMemory
-          (IsTranscript files g.F.Files.is_fetch c.loop-blocks.files c.load_line.new.files)
+          (subst (λ files. IsPartLoad {T = Unit {0}} OutOfMemory
+          (IsPartTranscript files g.F.Files.is_fetch c.loop-blocks.files c.load_line.new.files)
           (load_of_line (λ word. load_below c.args.depth c.args.name.now (included_name c.args.name.now word))
           c.args.name.now (reverse c.loop-blocks.blocks.items) c.in_ok-line-2.line
           (store_line_reading_of c.in_ok-line-2.line.text) (excerpt_in c.loop-blocks.draft))
@@ -186,8 +186,8 @@ load_file-returns-in_err-load_line-clause-loads g t c =
     (nonblank_lines c.loop-blocks.lines) c.loop-blocks.invariant.continues
     (nonblank_lines c.take_shown.new.self) c.in_ok-line-2.line taken c.load_line.new.files c.load_line.new.draft
     c.load_line.new.draft c.in_err-load_line.field-0.0
-    (subst (λ files. IsLoad {T = Unit {0}} OutOfMemory
-    (IsTranscript files g.F.Files.is_fetch c.loop-blocks.files c.load_line.new.files)
+    (subst (λ files. IsPartLoad {T = Unit {0}} OutOfMemory
+    (IsPartTranscript files g.F.Files.is_fetch c.loop-blocks.files c.load_line.new.files)
     (load_of_line (λ word. load_below c.args.depth c.args.name.now (included_name c.args.name.now word))
     c.args.name.now (reverse c.loop-blocks.blocks.items) c.in_ok-line-2.line
     (store_line_reading_of c.in_ok-line-2.line.text) (excerpt_in c.loop-blocks.draft))
@@ -244,12 +244,12 @@ load_include-returns-in_ok-push_line-in-Ok-clause-loads g t c =
     ∙ ap not c.if-not-has_room.false)
     c.load_file.new.files c.push_line.new.self c.in-Ok.text c.load_file.result c.in-Ok.ensures.told
     c.in-Ok.ensures.fetched c.in_ok-push_line-in-Ok.ensures.put
-    (subst (λ files. IsLoad OutOfMemory
-    (IsTranscript files g.F.Files.is_fetch c.fetch.new.self c.load_file.new.files)
+    (subst (λ files. IsPartLoad OutOfMemory
+    (IsPartTranscript files g.F.Files.is_fetch c.fetch.new.self c.load_file.new.files)
     (load_above (c.args.depth - 1) c.as_bytes-file.result.now c.in-Ok.text (excerpt_in c.push_line.new.self))
     (λ _. excerpt_in c.load_file.new.draft) c.load_file.result) c.fetch.ensures.kept
-    (subst (λ bytes. IsLoad OutOfMemory
-    (IsTranscript (g.F.Files.files c.fetch.new.self) g.F.Files.is_fetch c.fetch.new.self c.load_file.new.files)
+    (subst (λ bytes. IsPartLoad OutOfMemory
+    (IsPartTranscript (g.F.Files.files c.fetch.new.self) g.F.Files.is_fetch c.fetch.new.self c.load_file.new.files)
     (load_above (c.args.depth - 1) c.as_bytes-file.result.now bytes (excerpt_in c.push_line.new.self))
     (λ _. excerpt_in c.load_file.new.draft) c.load_file.result) c.as_bytes-in-Ok.ensures c.load_file.ensures.loads)))
 
@@ -290,7 +290,7 @@ load_include-returns-in-Err-Failed-clause-loads g t c =
 pub load_line-returns-in-Stands-clause-loads : goal.load_line-returns-in-Stands-clause-loads
 load_line-returns-in-Stands-clause-loads g t c =
     alone_loads
-    (IsTranscript (g.F.Files.files c.args.files.now) g.F.Files.is_fetch c.args.files.now c.args.files.now)
+    (IsPartTranscript (g.F.Files.files c.args.files.now) g.F.Files.is_fetch c.args.files.now c.args.files.now)
     (λ word. load_below c.args.depth c.args.name.now (included_name c.args.name.now word)) c.args.name.now
     (reverse c.args.blocks.now.items) c.args.line (Stands c.in-Stands.role) c.args.draft.now
     c.push_role_line.new.draft c.push_role_line.result (tt, refl) tt
@@ -300,7 +300,7 @@ load_line-returns-in-Stands-clause-loads g t c =
 pub load_line-returns-in-Defines-clause-loads : goal.load_line-returns-in-Defines-clause-loads
 load_line-returns-in-Defines-clause-loads g t c =
     alone_loads
-    (IsTranscript (g.F.Files.files c.args.files.now) g.F.Files.is_fetch c.args.files.now c.args.files.now)
+    (IsPartTranscript (g.F.Files.files c.args.files.now) g.F.Files.is_fetch c.args.files.now c.args.files.now)
     (λ word. load_below c.args.depth c.args.name.now (included_name c.args.name.now word)) c.args.name.now
     (reverse c.args.blocks.now.items) c.args.line (Defines _) c.args.draft.now c.push_line.new.self
     c.push_line.result (tt, refl) tt
@@ -312,13 +312,13 @@ load_line-returns-in_ok-file-in-Includes-clause-loads g t c =
     let means : Includes c.in-Includes.word.now ≡ store_line_reading_of c.args.line.text =
     ap (seen_store_line_reading c.as_bytes.result.now) (sym c.in-Includes.is)
     ∙ c.in_ok-role.ensures.means ∙ ap store_line_reading_of c.as_bytes.ensures in
-    subst (λ reading. IsLoad OutOfMemory
-    (IsTranscript (g.F.Files.files c.args.files.now) g.F.Files.is_fetch c.args.files.now c.load_include.new.files)
+    subst (λ reading. IsPartLoad OutOfMemory
+    (IsPartTranscript (g.F.Files.files c.args.files.now) g.F.Files.is_fetch c.args.files.now c.load_include.new.files)
     (load_of_line (λ word. load_below c.args.depth c.args.name.now (included_name c.args.name.now word))
     c.args.name.now (reverse c.args.blocks.now.items) c.args.line reading (excerpt_in c.args.draft.now))
     (λ _. excerpt_in c.load_include.new.draft) c.load_include.result) means
-    (subst (λ file. IsLoad OutOfMemory
-    (IsTranscript (g.F.Files.files c.args.files.now) g.F.Files.is_fetch c.args.files.now c.load_include.new.files)
+    (subst (λ file. IsPartLoad OutOfMemory
+    (IsPartTranscript (g.F.Files.files c.args.files.now) g.F.Files.is_fetch c.args.files.now c.load_include.new.files)
     (load_below c.args.depth c.args.name.now file c.args.line (excerpt_in c.args.draft.now))
     (λ _. excerpt_in c.load_include.new.draft) c.load_include.result) c.in_ok-file-in-Includes.ensures
     c.load_include.ensures.loads)
@@ -326,7 +326,7 @@ load_line-returns-in_ok-file-in-Includes-clause-loads g t c =
 pub load_line-returns-in-Faulty-clause-loads : goal.load_line-returns-in-Faulty-clause-loads
 load_line-returns-in-Faulty-clause-loads g t c =
     alone_loads
-    (IsTranscript (g.F.Files.files c.args.files.now) g.F.Files.is_fetch c.args.files.now c.args.files.now)
+    (IsPartTranscript (g.F.Files.files c.args.files.now) g.F.Files.is_fetch c.args.files.now c.args.files.now)
     (λ word. load_below c.args.depth c.args.name.now (included_name c.args.name.now word)) c.args.name.now
     (reverse c.args.blocks.now.items) c.args.line (Faulty c.as_bytes-in-Faulty.result.now) c.args.draft.now
     c.refuse_line.new.self c.refuse_line.result (tt, refl) tt

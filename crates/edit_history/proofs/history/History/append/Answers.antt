@@ -4,7 +4,7 @@ use Rattle.std.proofs.lemmas.List.{length-map}
 use Rattle.deck_lines.specs.ClosedBlocks.{AreBlocksClosed}
 use Rattle.deck_lines.specs.Limits.{pass_store_limit}
 use Rattle.deck_lines.specs.Marks.{store_line_without_mark}
-use Rattle.deck_lines.specs.Transcripts.{IsTranscript}
+use Rattle.deck_lines.specs.Transcripts.{IsTranscript, files_model}
 use Rattle.deck.specs.Decks.{DeckContents}
 use Rattle.edit_history.specs.Histories.{UndoStacks}
 use Rattle.edit_history.specs.declared.step.Step.TheVariants.{Exchange}
@@ -17,7 +17,7 @@ overflow_sub-cut g c =
     let old = c.args.table.now.deck in
     let new = c.append.new.self.deck in
     let more = recorded_append_adds_lines c.appends_keep_lines.ensures
-    (IsTranscript (g.F.Files.files c.args.files.now) g.F.Files.is_fetch c.args.files.now c.append.new.files)
+    (IsTranscript (files_model g.F.Files.files g.F.Files.faults g.F.Files.is_fetch) c.args.files.now c.append.new.files)
     c.args.name.now old.lines
     (record { lines = new.lines; notices = new.notices }) c.in_ok-append.ensures.loads in
     let before : c.len-at.result ≡ length old.lines = c.len-at.ensures ∙ ap length c.lines.ensures.is
@@ -33,7 +33,7 @@ returns-clause-follows g c =
     let old = c.args.table.now.deck in
     let new = c.append.new.self.deck in
     let more = recorded_append_adds_lines c.appends_keep_lines.ensures
-    (IsTranscript (g.F.Files.files c.args.files.now) g.F.Files.is_fetch c.args.files.now c.append.new.files)
+    (IsTranscript (files_model g.F.Files.files g.F.Files.faults g.F.Files.is_fetch) c.args.files.now c.append.new.files)
     c.args.name.now old.lines
     (record { lines = new.lines; notices = new.notices }) c.in_ok-append.ensures.loads in
     let before : c.len-at.result ≡ length old.lines = c.len-at.ensures ∙ ap length c.lines.ensures.is
@@ -63,7 +63,7 @@ returns-clause-noted g c =
     let old = c.args.table.now.deck in
     let new = c.append.new.self.deck in
     let more = recorded_append_adds_lines c.appends_keep_lines.ensures
-    (IsTranscript (g.F.Files.files c.args.files.now) g.F.Files.is_fetch c.args.files.now c.append.new.files)
+    (IsTranscript (files_model g.F.Files.files g.F.Files.faults g.F.Files.is_fetch) c.args.files.now c.append.new.files)
     c.args.name.now old.lines
     (record { lines = new.lines; notices = new.notices }) c.in_ok-append.ensures.loads in
     let before : c.len-at.result ≡ length old.lines = c.len-at.ensures ∙ ap length c.lines.ensures.is

@@ -1,10 +1,10 @@
 use Rattle.std.proofs.Common.{subst}
 use Rattle.std.specs.Prelude.{Ok}
-use Rattle.deck_lines.specs.Transcripts.{HasTranscript, IsTranscript}
+use Rattle.deck_lines.specs.Transcripts.{HasTranscript, IsTranscript, files_model}
 use Rattle.deck.specs.FileLoads as loading
 use Rattle.live_table.specs.TableView.{LiveView}
 use Rattle.live_table.specs.TableContents.{live_view_of_nodes, node_lists}
-use Rattle.live_table.proofs.NodeEdits.{live_edit_has_deck_outcome, live_table_can_forget, live_table_with_other_edges}
+use Rattle.live_table.proofs.NodeEdits.{live_table_can_forget, live_table_with_other_edges}
 use Rattle.live_table.proofs.NodeEdits.{live_view_is_edited}
 use Rattle.live_table.proofs.live_table.LiveTable.append.Goals as goal
 
@@ -26,13 +26,6 @@ invariant_of-self-2 g c = (
   (c.forget_changed.ensures.explored, c.forget_changed.ensures.faults),
 )
 
-pub returns-clause-told : goal.returns-clause-told
-returns-clause-told g c m e =
-    live_edit_has_deck_outcome (λ d. loading.deck_after_appending m c.args.name.now d) c.self.inside.deck
-    c.append.new.self
-    (node_lists c.self.inside.nodes)
-    c.self.inside.reductions c.args.self.now c.self.view_is (c.in_ok-keys.ensures.told m e)
-
 pub returns-clause-ok : goal.returns-clause-ok
 returns-clause-ok g c =
     live_view_is_edited c.args.self.now
@@ -47,6 +40,6 @@ returns-clause-ok g c =
 pub returns-clause-loads : goal.returns-clause-loads
 returns-clause-loads g c =
     subst (λ (s : LiveView). HasTranscript
-    (IsTranscript (g.F.Files.files c.args.files.now) g.F.Files.is_fetch c.args.files.now c.append.new.files)
+    (IsTranscript (files_model g.F.Files.files g.F.Files.faults g.F.Files.is_fetch) c.args.files.now c.append.new.files)
     (loading.deck_load_of_name c.args.name.now (loading.deck_excerpt_of_lines s.deck.lines))
     (Ok (loading.excerpt_of_deck c.append.new.self))) c.self.view_is c.in_ok-keys.ensures.loads
