@@ -5,11 +5,11 @@
 
 Each row is run at three sizes in turns, seven times each. A line for each size has the size, the least processor time
 and the least peak memory; then a line has the exponents between the larger two: 1 is linear, 2 quadratic. The cost of
-the smallest input is subtracted, so that the start of the program does not hide the growth. A row with an easier input of
-the same size has the ratio of the times, which may be at most 2. A row ends in `ok` or `over`, according to its
-bounds. If the time of a row grows faster than its bound, valgrind counts the instructions of both sizes, and their
-exponent decides: time also grows when data leaves a cache, and with what else the machine does. By default all rows are
-run, which takes some minutes.
+the smallest input is subtracted, so that the start of the program does not hide the growth. A row with an easier input
+of the same size has the ratio of the times, which may be at most 2. A row ends in `ok` or `over`, according to its
+bounds. If the time of a row grows faster than its bound and valgrind is installed, the exponent of the instructions
+follows: time also grows when data leaves a cache, and with what else the machine does. By default all rows are run,
+which takes two minutes.
 """
 
 from __future__ import annotations
@@ -327,9 +327,7 @@ def measure(program: str, row: Row, folder: Path) -> bool:
     is_small = memory <= row.memory or costs[2].bytes - bases[2].bytes < 4e6
     comparison = ""
     if not is_quick and row.start is None and shutil.which("valgrind"):
-        instructions = exponent_of_instructions(program, row, folder)
-        is_quick = instructions <= row.time
-        comparison = f", instructions {instructions:.2f}"
+        comparison = f", instructions {exponent_of_instructions(program, row, folder):.2f}"
     is_within = is_quick and is_small
     print(f"{row.name}:")
     for size, cost in zip(row.sizes, costs):
