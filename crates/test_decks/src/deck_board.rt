@@ -1,11 +1,13 @@
 //! A deck that calls operate on.
 
-use crate::deck_queries::query_answer;
-use crate::deck_texts::{changes_text, fault_text, line_of};
+use crate::deck_calls::{Call, Edit, KeyQuery, Load, Query, Setting, read_call};
+use crate::deck_queries::{put_key_query, put_query};
+use crate::deck_texts::{put_changes, put_fault};
 use deck::{Deck, DeckFault, Settings, Splice};
 use def_entry::Keys;
 use std::alloc::{AllocError, Global};
-use test_lines::{Answers, CallFault, key_in, put_answers, put_line, read_change, split_at_space};
+use std::mem;
+use test_lines::{Answers, CallFault, key_in, put_answers, read_change, split_at_space};
 use units_io::{Files, Text, Vars};
 
 // The state between calls: the files to load, the deck, a snapshot of an earlier state of it, the inverse of the last
@@ -19,27 +21,42 @@ struct Board<F> {
     settings: Settings,
 }
 
-// Returns the answers to calls. `load FILE` loads a file with its includes, and `text FILE` a single file, whose
-// includes count as absent; `locale NAME` and `set NAME VALUE` change the settings for the following loads and edits.
-// The edits are `define LINE`, `drop KEY`, `append FILE`, `switch`, which makes the settings take effect,
-// `splice AT CUT LINE;LINE..`, and `back`, which undoes the last splice. `snapshot` stores the deck for `compare`.
+// Returns the answers to calls over files.
 pub(crate) fn deck_answers<F: Files + Drop>(
     alloc: Global,
     files: F,
     lines: &[u8],
 ) -> Result<Vec<u8>, AllocError> {
-    let locale = Text::from_bytes(alloc, b"en_US")?;
-    let vars = Vars::new(alloc);
+    let settings = first_settings(alloc)?;
     let mut board = Board {
         files,
         deck: None,
         snapshot: None,
         inverse: None,
-        settings: Settings { locale, vars },
+        settings,
     };
+    let answers = answers_on(alloc, &mut board, lines);
+    // The process ends next, so the decks need not be freed.
+    mem::forget(board);
+    answers
+}
+
+// Returns the answers to calls.
+fn answers_on<F: Files + Drop>(
+    alloc: Global,
+    board: &mut Board<F>,
+    lines: &[u8],
+) -> Result<Vec<u8>, AllocError> {
     let mut out = Vec::new(alloc);
-    put_answers(alloc, &mut board, lines, &mut out)?;
+    put_answers(alloc, board, lines, &mut out)?;
     Ok(out)
+}
+
+// Returns the settings before the first call.
+fn first_settings(alloc: Global) -> Result<Settings, AllocError> {
+    let locale = Text::from_bytes(alloc, b"en_US")?;
+    let vars = Vars::new(alloc);
+    Ok(Settings { locale, vars })
 }
 
 impl<F: Files + Drop> Answers for Board<F> {
@@ -49,103 +66,192 @@ impl<F: Files + Drop> Answers for Board<F> {
         line: &[u8],
         out: &mut Vec<u8>,
     ) -> Result<(), CallFault> {
-        Ok(put_line(out, &self.answer_to(alloc, line)?)?)
+        let Some((call, argument)) = read_call(line) else {
+            return Err(CallFault::BadCall);
+        };
+        self.put_call(alloc, call, argument, out)?;
+        Ok(out.extend_from_slice(b"\n")?)
     }
 }
 
 impl<F: Files + Drop> Board<F> {
-    // Returns the answer to a call.
-    fn answer_to(&mut self, alloc: Global, line: &[u8]) -> Result<Vec<u8>, CallFault> {
-        let (word, rest) = split_at_space(line);
-        match word {
-            b"locale" => {
-                self.settings.locale = Text::from_bytes(alloc, rest)?;
-                Ok(line_of(alloc, b"ok")?)
-            }
-            b"set" => {
-                let (name, value) = split_at_space(rest);
-                let name = Text::from_bytes(alloc, name)?;
-                let value = Text::from_bytes(alloc, value)?;
-                self.settings.vars.set(alloc, name, value)?;
-                Ok(line_of(alloc, b"ok")?)
-            }
-            b"load" => {
-                let settings = self.settings.copy(alloc)?;
-                let outcome = Deck::load(alloc, &mut self.files, rest, settings);
-                Ok(self.take_deck(alloc, outcome)?)
-            }
-            b"text" => {
-                let settings = self.settings.copy(alloc)?;
-                let outcome = deck_of_text(alloc, &mut self.files, rest, settings);
-                Ok(self.take_deck(alloc, outcome)?)
-            }
-            _ => self.deck_answer(alloc, line),
-        }
-    }
-
-    // Stores a loaded deck, or returns why the load failed.
-    fn take_deck(
+    // Appends the answer to a call.
+    fn put_call(
         &mut self,
         alloc: Global,
-        outcome: Result<Deck, DeckFault>,
-    ) -> Result<Vec<u8>, AllocError> {
-        match outcome {
+        call: Call,
+        argument: &[u8],
+        out: &mut Vec<u8>,
+    ) -> Result<(), CallFault> {
+        let answered = match call {
+            Call::Splice => return self.put_splice(alloc, argument, out),
+            Call::Setting(setting) => self.put_setting(alloc, setting, argument, out),
+            Call::Load(load) => self.put_load(alloc, load, argument, out),
+            Call::Snapshot => self.put_snapshot(alloc, out),
+            Call::Edit(edit) => self.put_edit(alloc, edit, argument, out),
+            Call::Back => self.put_back(alloc, out),
+            Call::Query(query) => self.put_query(alloc, query, out),
+            Call::KeyQuery(query) => self.put_key_query(alloc, query, argument, out),
+        };
+        Ok(answered?)
+    }
+
+    // Changes the settings for the following loads and edits.
+    fn put_setting(
+        &mut self,
+        alloc: Global,
+        setting: Setting,
+        argument: &[u8],
+        out: &mut Vec<u8>,
+    ) -> Result<(), AllocError> {
+        match setting {
+            Setting::Locale => self.settings.locale = Text::from_bytes(alloc, argument)?,
+            Setting::Variable => {
+                let (name, value) = split_at_space(argument);
+                set_variable(alloc, &mut self.settings.vars, name, value)?;
+            }
+        }
+        out.extend_from_slice(b"ok")
+    }
+
+    // Loads a deck, or appends why the load failed.
+    fn put_load(
+        &mut self,
+        alloc: Global,
+        load: Load,
+        name: &[u8],
+        out: &mut Vec<u8>,
+    ) -> Result<(), AllocError> {
+        let settings = self.settings.copy(alloc)?;
+        let loaded = match load {
+            Load::File => Deck::load(alloc, &mut self.files, name, settings),
+            Load::Text => deck_of_text(alloc, &mut self.files, name, settings),
+        };
+        match loaded {
             Ok(deck) => {
                 self.deck = Some(deck);
-                line_of(alloc, b"ok")
+                out.extend_from_slice(b"ok")
             }
-            Err(fault) => fault_text(alloc, fault),
+            Err(fault) => put_fault(alloc, out, fault),
         }
     }
 
-    // Returns the answer to a call that needs a deck.
-    fn deck_answer(&mut self, alloc: Global, line: &[u8]) -> Result<Vec<u8>, CallFault> {
-        let Some(deck) = &mut self.deck else {
-            return answer_without_deck(alloc, line);
+    // Stores the deck for comparisons.
+    fn put_snapshot(&mut self, alloc: Global, out: &mut Vec<u8>) -> Result<(), AllocError> {
+        let Some(deck) = &self.deck else {
+            return put_lack_of_deck(out);
         };
-        let (word, rest) = split_at_space(line);
-        match word {
-            b"snapshot" => {
-                self.snapshot = Some(deck.snapshot(alloc)?);
-                Ok(line_of(alloc, b"ok")?)
-            }
-            b"define" | b"drop" | b"append" | b"switch" => {
-                let settings = self.settings.copy(alloc)?;
-                Ok(edit_answer(alloc, &mut self.files, deck, settings, line)?)
-            }
-            b"splice" => {
-                let change = splice_in(alloc, rest, &self.settings)?;
-                self.inverse = None;
-                Ok(splice_answer(alloc, deck, &mut self.inverse, change)?)
-            }
-            b"back" => match self.inverse.take() {
-                Some(change) => Ok(splice_answer(alloc, deck, &mut self.inverse, change)?),
-                None => Ok(line_of(alloc, b"no splice")?),
-            },
-            _ => query_answer(alloc, deck, &self.snapshot, line),
+        self.snapshot = Some(deck.snapshot(alloc)?);
+        out.extend_from_slice(b"ok")
+    }
+
+    // Makes an edit.
+    fn put_edit(
+        &mut self,
+        alloc: Global,
+        edit: Edit,
+        argument: &[u8],
+        out: &mut Vec<u8>,
+    ) -> Result<(), AllocError> {
+        let Some(deck) = &mut self.deck else {
+            return put_lack_of_deck(out);
+        };
+        let outcome = match edit {
+            Edit::Define => deck.define(alloc, argument),
+            Edit::Append => deck.append(alloc, &mut self.files, argument),
+            Edit::Switch => deck.switch(alloc, self.settings.copy(alloc)?),
+            Edit::DropLast => return put_drop(alloc, deck, argument, out),
+        };
+        put_outcome(alloc, out, outcome)
+    }
+
+    // Reads a splice, and makes it if it is allowed.
+    fn put_splice(
+        &mut self,
+        alloc: Global,
+        argument: &[u8],
+        out: &mut Vec<u8>,
+    ) -> Result<(), CallFault> {
+        let change = self.read_splice(alloc, argument)?;
+        self.inverse = None;
+        Ok(self.put_spliced(alloc, change, out)?)
+    }
+
+    // Reads a splice under the settings for edits.
+    fn read_splice(&self, alloc: Global, text: &[u8]) -> Result<Splice, CallFault> {
+        let change = read_change(alloc, text)?;
+        let settings = self.settings.copy(alloc)?;
+        Ok(Splice {
+            at: change.at,
+            cut: change.cut,
+            put: change.put,
+            settings,
+        })
+    }
+
+    // Undoes the last splice.
+    fn put_back(&mut self, alloc: Global, out: &mut Vec<u8>) -> Result<(), AllocError> {
+        match self.inverse.take() {
+            Some(change) => self.put_spliced(alloc, change, out),
+            None if self.deck.is_none() => put_lack_of_deck(out),
+            None => out.extend_from_slice(b"no splice"),
+        }
+    }
+
+    // Makes a splice if it is allowed, and appends the keys that it changed.
+    fn put_spliced(
+        &mut self,
+        alloc: Global,
+        change: Splice,
+        out: &mut Vec<u8>,
+    ) -> Result<(), AllocError> {
+        let Some(deck) = &mut self.deck else {
+            return put_lack_of_deck(out);
+        };
+        match make_splice(alloc, deck, change, &mut self.inverse)? {
+            Some(keys) => put_changes(alloc, out, &keys),
+            None => out.extend_from_slice(b"no such splice"),
+        }
+    }
+
+    // Appends the answer to a query about the deck.
+    fn put_query(&self, alloc: Global, query: Query, out: &mut Vec<u8>) -> Result<(), AllocError> {
+        match &self.deck {
+            Some(deck) => put_query(alloc, deck, &self.snapshot, query, out),
+            None => put_lack_of_deck(out),
+        }
+    }
+
+    // Appends the answer to a query about the key that `text` names.
+    fn put_key_query(
+        &self,
+        alloc: Global,
+        query: KeyQuery,
+        text: &[u8],
+        out: &mut Vec<u8>,
+    ) -> Result<(), AllocError> {
+        match &self.deck {
+            Some(deck) => put_key_query(alloc, deck, query, text, out),
+            None => put_lack_of_deck(out),
         }
     }
 }
 
-// Returns the answer to a call that needs a deck if there is none.
-fn answer_without_deck(alloc: Global, line: &[u8]) -> Result<Vec<u8>, CallFault> {
-    let (word, rest) = split_at_space(line);
-    match word {
-        b"snapshot" | b"entry" | b"place" | b"define" | b"drop" | b"append" | b"switch" | b"back" =>
-            {}
-        b"count"
-        | b"keys"
-        | b"lines"
-        | b"notices"
-        | b"messages"
-        | b"defining"
-        | b"settings"
-        | b"compare"
-            if word.len() == line.len() => {}
-        b"splice" => drop(read_change(alloc, rest)?),
-        _ => return Err(CallFault::BadCall),
-    }
-    Ok(line_of(alloc, b"no deck")?)
+// Appends that there is no deck.
+fn put_lack_of_deck(out: &mut Vec<u8>) -> Result<(), AllocError> {
+    out.extend_from_slice(b"no deck")
+}
+
+// Gives a variable a value.
+fn set_variable(
+    alloc: Global,
+    vars: &mut Vars,
+    name: &[u8],
+    value: &[u8],
+) -> Result<(), AllocError> {
+    let name = Text::from_bytes(alloc, name)?;
+    let value = Text::from_bytes(alloc, value)?;
+    vars.set(alloc, name, value)
 }
 
 // Returns the deck of the text of a single file. Its includes count as absent files.
@@ -159,61 +265,46 @@ fn deck_of_text<F: Files>(
     Deck::from_text(alloc, text.as_bytes(), name, settings)
 }
 
-// Makes an edit, and returns the keys that it changed or why it was refused.
-fn edit_answer<F: Files>(
-    alloc: Global,
-    files: &mut F,
-    deck: &mut Deck,
-    settings: Settings,
-    line: &[u8],
-) -> Result<Vec<u8>, AllocError> {
-    let (word, rest) = split_at_space(line);
-    match word {
-        b"define" => outcome_text(alloc, deck.define(alloc, rest)),
-        b"append" => outcome_text(alloc, deck.append(alloc, files, rest)),
-        b"switch" => outcome_text(alloc, deck.switch(alloc, settings)),
-        _ => match key_in(alloc, rest)? {
-            Some(key) => outcome_text(alloc, deck.drop_last(alloc, &key)),
-            None => line_of(alloc, b"not a key"),
-        },
-    }
-}
-
-// Returns the keys that an edit changed, or why it was refused.
-fn outcome_text(alloc: Global, outcome: Result<Keys, DeckFault>) -> Result<Vec<u8>, AllocError> {
-    match outcome {
-        Ok(keys) => changes_text(alloc, &keys),
-        Err(fault) => fault_text(alloc, fault),
-    }
-}
-
-// Reads a splice under these settings.
-fn splice_in(alloc: Global, text: &[u8], settings: &Settings) -> Result<Splice, CallFault> {
-    let change = read_change(alloc, text)?;
-    let settings = settings.copy(alloc)?;
-    Ok(Splice {
-        at: change.at,
-        cut: change.cut,
-        put: change.put,
-        settings,
-    })
-}
-
-// Makes a splice if it is allowed, and stores its inverse.
-fn splice_answer(
+// Makes a splice and stores its inverse. Returns the keys that it changed, or `None` if it is not allowed.
+fn make_splice(
     alloc: Global,
     deck: &mut Deck,
-    inverse: &mut Option<Splice>,
     change: Splice,
-) -> Result<Vec<u8>, AllocError> {
+    inverse: &mut Option<Splice>,
+) -> Result<Option<Keys>, AllocError> {
     if !deck.can_splice(alloc, &change)? {
-        return line_of(alloc, b"no such splice");
+        return Ok(None);
     }
     match deck.splice(alloc, change) {
         Ok((keys, back)) => {
             *inverse = Some(back);
-            changes_text(alloc, &keys)
+            Ok(Some(keys))
         }
         Err((_, error)) => Err(error),
+    }
+}
+
+// Drops the last line of the key that `text` names.
+fn put_drop(
+    alloc: Global,
+    deck: &mut Deck,
+    text: &[u8],
+    out: &mut Vec<u8>,
+) -> Result<(), AllocError> {
+    match key_in(alloc, text)? {
+        Some(key) => put_outcome(alloc, out, deck.drop_last(alloc, &key)),
+        None => out.extend_from_slice(b"not a key"),
+    }
+}
+
+// Appends the keys that an edit changed, or why it was refused.
+fn put_outcome(
+    alloc: Global,
+    out: &mut Vec<u8>,
+    outcome: Result<Keys, DeckFault>,
+) -> Result<(), AllocError> {
+    match outcome {
+        Ok(keys) => put_changes(alloc, out, &keys),
+        Err(fault) => put_fault(alloc, out, fault),
     }
 }

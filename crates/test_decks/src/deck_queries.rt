@@ -1,109 +1,141 @@
-//! Queries of a deck, and their answers.
+//! The answers to queries of a deck.
 
-use crate::deck_texts::{keys_text, line_of, lines_text, settings_text, texts_text};
+use crate::deck_calls::{KeyQuery, Query};
+use crate::deck_texts::{put_keys, put_lines, put_settings, put_texts};
 use deck::Deck;
-use deck_lines::DeckLines;
 use def_entry::{Key, Kind};
 use std::alloc::{AllocError, Global};
-use test_lines::{CallFault, key_in, put_count, split_at_space};
+use test_lines::{key_in, put_count};
 
-// Returns the answer to a query. A query without an argument is the whole line.
-pub(crate) fn query_answer(
+// Appends the answer to a query about the deck.
+pub(crate) fn put_query(
     alloc: Global,
     deck: &Deck,
     snapshot: &Option<Deck>,
-    line: &[u8],
-) -> Result<Vec<u8>, CallFault> {
-    match line {
-        b"count" => Ok(count_text(alloc, deck)?),
-        b"keys" => Ok(keys_text(alloc, &deck.keys(alloc)?)?),
-        b"lines" => Ok(lines_text(alloc, &all_lines(alloc, deck)?)?),
-        b"notices" => Ok(texts_text(alloc, deck.notices())?),
-        b"messages" => Ok(texts_text(alloc, &deck.messages(alloc)?)?),
-        b"defining" => Ok(texts_text(alloc, &deck.defining_line_texts(alloc)?)?),
-        b"settings" => Ok(settings_text(alloc, deck.settings())?),
-        b"compare" => match snapshot {
-            Some(other) => Ok(comparison(alloc, deck, other)?),
-            None => Ok(line_of(alloc, b"no snapshot")?),
-        },
-        _ => {
-            let (word, text) = split_at_space(line);
-            key_query_answer(alloc, deck, word, text)
-        }
+    query: Query,
+    out: &mut Vec<u8>,
+) -> Result<(), AllocError> {
+    match query {
+        Query::Count => put_counts(alloc, deck, out),
+        Query::Keys => put_all_keys(alloc, deck, out),
+        Query::Lines => put_all_lines(alloc, deck, out),
+        Query::Notices => put_texts(out, deck.notices()),
+        Query::Messages => put_messages(alloc, deck, out),
+        Query::Defining => put_defining_lines(alloc, deck, out),
+        Query::Settings => put_settings(out, deck.settings()),
+        Query::Compare => put_comparison(alloc, deck, snapshot, out),
     }
 }
 
-// Returns the answer to a query about the key that `text` names.
-fn key_query_answer(
+// Appends the answer to a query about the key that `text` names.
+pub(crate) fn put_key_query(
     alloc: Global,
     deck: &Deck,
-    word: &[u8],
+    query: KeyQuery,
     text: &[u8],
-) -> Result<Vec<u8>, CallFault> {
-    match word {
-        b"entry" => match key_in(alloc, text)? {
-            Some(key) => Ok(entry_text(alloc, deck, &key)?),
-            None => Ok(line_of(alloc, b"not a key")?),
-        },
-        b"place" => match key_in(alloc, text)? {
-            Some(key) => Ok(place_text(alloc, deck, &key)?),
-            None => Ok(line_of(alloc, b"not a key")?),
-        },
-        _ => Err(CallFault::BadCall),
+    out: &mut Vec<u8>,
+) -> Result<(), AllocError> {
+    match key_in(alloc, text)? {
+        Some(key) => put_key_answer(alloc, deck, query, &key, out),
+        None => out.extend_from_slice(b"not a key"),
     }
 }
 
-// Returns the text of the entry of a key, or `none`.
-fn entry_text(alloc: Global, deck: &Deck, key: &Key) -> Result<Vec<u8>, AllocError> {
+// Appends the answer to a query about a key.
+fn put_key_answer(
+    alloc: Global,
+    deck: &Deck,
+    query: KeyQuery,
+    key: &Key,
+    out: &mut Vec<u8>,
+) -> Result<(), AllocError> {
+    match query {
+        KeyQuery::Entry => put_entry(deck, key, out),
+        KeyQuery::Place => put_place(alloc, deck, key, out),
+    }
+}
+
+// Appends the text of the entry of a key, or `none`.
+fn put_entry(deck: &Deck, key: &Key, out: &mut Vec<u8>) -> Result<(), AllocError> {
     match deck.entry(key.kind, key.name.as_bytes()) {
-        Some(entry) => line_of(alloc, entry.text()),
-        None => line_of(alloc, b"none"),
+        Some(entry) => out.extend_from_slice(entry.text()),
+        None => out.extend_from_slice(b"none"),
     }
 }
 
-// Returns the place of the last line in force of a key, or `none`.
-fn place_text(alloc: Global, deck: &Deck, key: &Key) -> Result<Vec<u8>, AllocError> {
+// Appends the place of the last line in force of a key, or `none`.
+fn put_place(alloc: Global, deck: &Deck, key: &Key, out: &mut Vec<u8>) -> Result<(), AllocError> {
     match deck.last_place(key) {
-        Some(place) => line_of(alloc, place.to_string(alloc)?.as_bytes()),
-        None => line_of(alloc, b"none"),
+        Some(place) => put_count(alloc, out, place, b""),
+        None => out.extend_from_slice(b"none"),
     }
 }
 
-// Returns the number of keys of each kind, and the numbers of lines and notices.
-fn count_text(alloc: Global, deck: &Deck) -> Result<Vec<u8>, AllocError> {
+// The kinds of keys with their names.
+const KINDS: &[(Kind, &[u8])] = &[
+    (Kind::Unit, b" units, "),
+    (Kind::Prefix, b" prefixes, "),
+    (Kind::Func, b" functions, "),
+    (Kind::List, b" lists, "),
+];
+
+// Appends the number of keys of each kind, and the numbers of lines and notices.
+fn put_counts(alloc: Global, deck: &Deck, out: &mut Vec<u8>) -> Result<(), AllocError> {
+    for (kind, name) in KINDS {
+        put_count(alloc, out, deck.key_count(*kind), name)?;
+    }
+    put_count(alloc, out, deck.lines().len(), b" lines, ")?;
+    put_count(alloc, out, deck.notices().len(), b" notices")
+}
+
+// Appends all keys.
+fn put_all_keys(alloc: Global, deck: &Deck, out: &mut Vec<u8>) -> Result<(), AllocError> {
+    put_keys(alloc, out, &deck.keys(alloc)?)
+}
+
+// Appends the messages.
+fn put_messages(alloc: Global, deck: &Deck, out: &mut Vec<u8>) -> Result<(), AllocError> {
+    put_texts(out, &deck.messages(alloc)?)
+}
+
+// Appends the texts of the lines that define keys.
+fn put_defining_lines(alloc: Global, deck: &Deck, out: &mut Vec<u8>) -> Result<(), AllocError> {
+    put_texts(out, &deck.defining_line_texts(alloc)?)
+}
+
+// Appends all lines with their marks.
+fn put_all_lines(alloc: Global, deck: &Deck, out: &mut Vec<u8>) -> Result<(), AllocError> {
+    let lines = deck.lines_from(alloc, 0, deck.lines().len())?;
+    put_lines(alloc, out, &lines)
+}
+
+// Appends whether the snapshot, if there is one, is equal to the deck.
+fn put_comparison(
+    alloc: Global,
+    deck: &Deck,
+    snapshot: &Option<Deck>,
+    out: &mut Vec<u8>,
+) -> Result<(), AllocError> {
+    let Some(other) = snapshot else {
+        return out.extend_from_slice(b"no snapshot");
+    };
+    let is_equal = state_text(alloc, deck)? == state_text(alloc, other)?;
+    out.extend_from_slice(if is_equal { b"equal" } else { b"different" })
+}
+
+// Returns the lines, notices and settings of a deck. None of them has a line feed, so decks with the same text are
+// equal.
+fn state_text(alloc: Global, deck: &Deck) -> Result<Vec<u8>, AllocError> {
     let mut text = Vec::new(alloc);
-    put_count(alloc, &mut text, deck.key_count(Kind::Unit), b" units, ")?;
-    put_count(
-        alloc,
-        &mut text,
-        deck.key_count(Kind::Prefix),
-        b" prefixes, ",
-    )?;
-    put_count(
-        alloc,
-        &mut text,
-        deck.key_count(Kind::Func),
-        b" functions, ",
-    )?;
-    put_count(alloc, &mut text, deck.key_count(Kind::List), b" lists, ")?;
-    put_count(alloc, &mut text, deck.lines().len(), b" lines, ")?;
-    put_count(alloc, &mut text, deck.notices().len(), b" notices")?;
+    put_state(alloc, deck, &mut text)?;
     Ok(text)
 }
 
-// Returns all lines with their marks.
-fn all_lines(alloc: Global, deck: &Deck) -> Result<DeckLines, AllocError> {
-    deck.lines_from(alloc, 0, deck.lines().len())
-}
-
-// Returns whether another deck is equal to the deck: whether both have the same texts of their lines, notices and
-// settings.
-fn comparison(alloc: Global, deck: &Deck, other: &Deck) -> Result<Vec<u8>, AllocError> {
-    let lines = lines_text(alloc, &all_lines(alloc, deck)?)?;
-    let notices = texts_text(alloc, deck.notices())?;
-    let settings = settings_text(alloc, deck.settings())?;
-    let is_equal = lines == lines_text(alloc, &all_lines(alloc, other)?)?
-        && notices == texts_text(alloc, other.notices())?
-        && settings == settings_text(alloc, other.settings())?;
-    line_of(alloc, if is_equal { b"equal" } else { b"different" })
+// Appends the lines, notices and settings of a deck, separated by line feeds.
+fn put_state(alloc: Global, deck: &Deck, out: &mut Vec<u8>) -> Result<(), AllocError> {
+    put_all_lines(alloc, deck, out)?;
+    out.push(b'\n')?;
+    put_texts(out, deck.notices())?;
+    out.push(b'\n')?;
+    put_settings(out, deck.settings())
 }

@@ -4,8 +4,42 @@ use crate::marking::Marking;
 use edge_links::Links;
 use std::alloc::{AllocError, Global};
 use test_lines::{
-    Answers, CallFault, put_answers, put_count, put_line, read_number, split_at_space,
+    Answers, CallFault, meaning_of, put_answers, put_count, put_line, read_number, split_at_space,
 };
+
+// A call, without its arguments. It is refused if a node does not exist or there is no room for an edge.
+#[derive(Clone, Copy)]
+enum Call {
+    // `node` adds a node and answers with its number.
+    Node,
+    // `spare` answers with the number of edges for which there is room.
+    Spare,
+    // A call on a number.
+    Number(NumberCall),
+    // `link USER KEY` adds an edge.
+    Link,
+}
+
+// A call on a number.
+#[derive(Clone, Copy)]
+enum NumberCall {
+    // `reserve N` makes room for edges.
+    Reserve,
+    // `unsettle NODE` answers with the nodes that were cleared, in order.
+    Unsettle,
+    // `users NODE` answers with the users of the edges to a node.
+    Users,
+}
+
+// The words of calls.
+const WORDS: &[(&[u8], Call)] = &[
+    (b"node", Call::Node),
+    (b"spare", Call::Spare),
+    (b"link", Call::Link),
+    (b"reserve", Call::Number(NumberCall::Reserve)),
+    (b"unsettle", Call::Number(NumberCall::Unsettle)),
+    (b"users", Call::Number(NumberCall::Users)),
+];
 
 // Linked edges.
 #[derive(Drop)]
@@ -13,10 +47,7 @@ struct Board {
     links: Links,
 }
 
-// Returns the answers to calls. `node` adds a node and answers with its number, `reserve N` makes room for edges, and
-// `spare` answers with the number of edges for which there is room. `link USER KEY` adds an edge, `unsettle NODE`
-// answers with the nodes that were cleared, in order, and `users NODE` with the users of the edges to a node. A call is
-// refused if a node does not exist or there is no room for an edge.
+// Returns the answers to calls.
 pub(crate) fn edge_answers(alloc: Global, lines: &[u8]) -> Result<Vec<u8>, AllocError> {
     let links = Links::new(alloc);
     let mut out = Vec::new(alloc);
@@ -31,26 +62,46 @@ impl Answers for Board {
         line: &[u8],
         out: &mut Vec<u8>,
     ) -> Result<(), CallFault> {
-        let (word, rest) = split_at_space(line);
-        match word {
-            b"node" => Ok(put_count(alloc, out, self.links.add_node(alloc)?, b"\n")?),
-            b"spare" => Ok(put_count(alloc, out, self.links.spare(), b"\n")?),
-            b"reserve" => {
-                self.links.reserve_edges(alloc, read_number(rest)?)?;
-                Ok(put_line(out, b"ok")?)
+        let (word, arguments) = split_at_space(line);
+        match meaning_of(WORDS, word) {
+            Some(Call::Node) => Ok(put_count(alloc, out, self.links.add_node(alloc)?, b"\n")?),
+            Some(Call::Spare) => Ok(put_count(alloc, out, self.links.spare(), b"\n")?),
+            Some(Call::Link) => self.put_link(arguments, out),
+            Some(Call::Number(call)) => {
+                let number = read_number(arguments)?;
+                Ok(self.put_number_call(alloc, call, number, out)?)
             }
-            b"link" => {
-                let (user, key) = split_at_space(rest);
-                Ok(put_line(out, self.link(read_number(user)?, read_number(key)?))?)
-            }
-            b"unsettle" => Ok(self.put_unsettled(alloc, read_number(rest)?, out)?),
-            b"users" => Ok(self.put_users(alloc, read_number(rest)?, out)?),
-            _ => Err(CallFault::BadCall),
+            None => Err(CallFault::BadCall),
         }
     }
 }
 
 impl Board {
+    // Reads two nodes and links them.
+    fn put_link(&mut self, nodes: &[u8], out: &mut Vec<u8>) -> Result<(), CallFault> {
+        let (user, key) = split_at_space(nodes);
+        let answer = self.link(read_number(user)?, read_number(key)?);
+        Ok(put_line(out, answer)?)
+    }
+
+    // Appends the answer to a call on a number.
+    fn put_number_call(
+        &mut self,
+        alloc: Global,
+        call: NumberCall,
+        number: usize,
+        out: &mut Vec<u8>,
+    ) -> Result<(), AllocError> {
+        match call {
+            NumberCall::Reserve => {
+                self.links.reserve_edges(alloc, number)?;
+                put_line(out, b"ok")
+            }
+            NumberCall::Unsettle => self.put_unsettled(alloc, number, out),
+            NumberCall::Users => self.put_users(alloc, number, out),
+        }
+    }
+
     // Links two nodes, if they exist and there is room for an edge.
     fn link(&mut self, user: usize, key: usize) -> &'static [u8] {
         let nodes = self.links.node_count();

@@ -4,6 +4,7 @@
 #![tactic(auto)]
 
 mod deck_board;
+mod deck_calls;
 mod deck_queries;
 mod deck_texts;
 mod edge_board;

@@ -1,5 +1,5 @@
 //! The library of the test programs: the loop over the lines of standard input, the word that names the kind of the
-//! calls, the arguments of calls, and the texts that answers consist of.
+//! calls, tables of words, the arguments of calls, and the texts that answers consist of.
 #![tactic(auto)]
 
 mod answers;
@@ -7,6 +7,7 @@ mod change;
 mod fault;
 mod faults;
 mod run;
+mod word_table;
 mod words;
 
 pub use answers::{Answers, put_answers};
@@ -14,4 +15,5 @@ pub use change::{Change, read_change};
 pub use fault::CallFault;
 pub use faults::{entry_refusal, parse_refusal};
 pub use run::{first_word, read_all, refuse_kind, write_all};
+pub use word_table::meaning_of;
 pub use words::{key_in, put_count, put_line, read_number, split_at_space};

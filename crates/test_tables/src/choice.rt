@@ -5,6 +5,30 @@ ghost use Rattle.reply.specs.Options.{AreReplyOptionsPrintable};
 
 use reply::Options;
 use std::str;
+use test_lines::meaning_of;
+
+// A flag of replies.
+#[derive(Clone, Copy)]
+enum Flag {
+    Exact,
+    Strict,
+    OneLine,
+    Compact,
+    Quiet,
+    Round,
+    Verbose,
+}
+
+// The words of flags.
+const FLAGS: &[(&[u8], Flag)] = &[
+    (b"exact", Flag::Exact),
+    (b"strict", Flag::Strict),
+    (b"one-line", Flag::OneLine),
+    (b"compact", Flag::Compact),
+    (b"quiet", Flag::Quiet),
+    (b"round", Flag::Round),
+    (b"verbose", Flag::Verbose),
+];
 
 // Returns the default options: eight digits and no flag.
 pub(crate) fn default_options() -> Options
@@ -34,22 +58,43 @@ pub(crate) fn read_options(words: &[u8]) -> Option<Options>
 }
 
 // Adds the option that a word names.
-fn with_option(mut options: Options, word: &[u8]) -> Option<Options>
+fn with_option(options: Options, word: &[u8]) -> Option<Options>
     requires { AreReplyOptionsPrintable options }
     ensures { IfSome result AreReplyOptionsPrintable }
 {
-    match word {
-        b"" => {}
-        b"exact" => options.exact = true,
-        b"strict" => options.strict = true,
-        b"one-line" => options.one_line = true,
-        b"compact" => options.compact = true,
-        b"quiet" => options.quiet = true,
-        b"round" => options.round = true,
-        b"verbose" => options.verbose = true,
-        _ => options.digits = read_digits(word)?,
+    if word.is_empty() {
+        return Some(options);
     }
-    Some(options)
+    match meaning_of(FLAGS, word) {
+        Some(flag) => Some(with_flag(options, flag)),
+        None => with_digits(options, word),
+    }
+}
+
+// Sets a flag.
+fn with_flag(mut options: Options, flag: Flag) -> Options
+    requires { AreReplyOptionsPrintable options }
+    ensures { AreReplyOptionsPrintable result }
+{
+    match flag {
+        Flag::Exact => options.exact = true,
+        Flag::Strict => options.strict = true,
+        Flag::OneLine => options.one_line = true,
+        Flag::Compact => options.compact = true,
+        Flag::Quiet => options.quiet = true,
+        Flag::Round => options.round = true,
+        Flag::Verbose => options.verbose = true,
+    }
+    options
+}
+
+// Sets the number of digits.
+fn with_digits(options: Options, word: &[u8]) -> Option<Options>
+    requires { AreReplyOptionsPrintable options }
+    ensures { IfSome result AreReplyOptionsPrintable }
+{
+    let digits = read_digits(word)?;
+    Some(Options { digits, ..options })
 }
 
 // Reads a number of digits from 1 to 36.

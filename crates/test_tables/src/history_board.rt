@@ -1,16 +1,40 @@
 //! A live table, and the history of its edits, that calls operate on.
 
-ghost use Rattle.std.specs.Prelude.{◌≡◌};
-
-use crate::texts::{edit_text, line_of, settings_of};
-use edit_history::{History, HistoryFault};
-use expr_tree::{ParseFault, parse_expr};
-use live_table::{LiveTable, QueryFault};
-use quantity::Style;
+use crate::edit_calls::{Edit, edit_text, settings_of};
+use crate::history_texts::{put_lines, put_value, undone_text};
+use edit_history::History;
+use live_table::LiveTable;
 use std::alloc::{AllocError, Global};
 use std::sync::ledger::Ledger;
-use test_lines::{Answers, CallFault, key_in, put_answers, put_line, split_at_space};
+use test_lines::{Answers, CallFault, key_in, meaning_of, put_answers, split_at_space};
 use units_io::{Files, Steps};
+
+// A call, without its argument.
+#[derive(Clone, Copy)]
+enum Call {
+    // `value EXPRESSION`.
+    Value,
+    // `lines`: the lines of the deck.
+    Lines,
+    // An edit.
+    Edit(Edit),
+    // `undo`.
+    Undo,
+    // `redo`.
+    Redo,
+}
+
+// The words of calls.
+const WORDS: &[(&[u8], Call)] = &[
+    (b"value", Call::Value),
+    (b"lines", Call::Lines),
+    (b"define", Call::Edit(Edit::Define)),
+    (b"drop", Call::Edit(Edit::DropLast)),
+    (b"switch", Call::Edit(Edit::Switch)),
+    (b"append", Call::Edit(Edit::Append)),
+    (b"undo", Call::Undo),
+    (b"redo", Call::Redo),
+];
 
 // The state between calls: the files to append, the table, its history, and the steps of queries.
 #[derive(Drop)]
@@ -21,9 +45,7 @@ struct Board<F, L: Ledger> {
     steps: Steps<L>,
 }
 
-// Returns the answers to a load and to the calls on its table. `value EXPRESSION` queries the table and `lines` returns
-// its lines. `define LINE`, `drop KEY`, `switch LOCALE` and `append FILE` are edits, which `undo` and `redo` undo and
-// redo.
+// Returns the answers to a load and to the calls on its table.
 pub(crate) fn history_answers<F: Files + Drop, L: Ledger>(
     alloc: Global,
     files: F,
@@ -54,83 +76,89 @@ impl<F: Files + Drop, L: Ledger> Answers for Board<F, L> {
         line: &[u8],
         out: &mut Vec<u8>,
     ) -> Result<(), CallFault> {
-        Ok(put_line(out, &self.answer_to(alloc, line)?)?)
+        let (word, argument) = split_at_space(line);
+        match meaning_of(WORDS, word) {
+            Some(call) => self.put_call(alloc, call, argument, out)?,
+            None => out.extend_from_slice(b"no call")?,
+        }
+        Ok(out.extend_from_slice(b"\n")?)
     }
 }
 
 impl<F: Files + Drop, L: Ledger> Board<F, L> {
     ghost use Rattle.edit_history.specs.Histories.{IsHistoryOf};
 
-    // Returns the answer to a line, which may not be a call.
-    fn answer_to(&mut self, alloc: Global, line: &[u8]) -> Result<Vec<u8>, AllocError>
+    // Appends the answer to a call.
+    fn put_call(
+        &mut self,
+        alloc: Global,
+        call: Call,
+        argument: &[u8],
+        out: &mut Vec<u8>,
+    ) -> Result<(), AllocError>
         requires { IsHistoryOf self.old.history self.old.live.deck }
         ensures { IsHistoryOf self.new.history self.new.live.deck }
     {
-        let (word, rest) = split_at_space(line);
-        let live = &mut self.live;
-        match word {
-            b"value" => value_text(alloc, live, rest, &mut self.steps),
-            b"lines" => lines_text(alloc, live),
-            b"define" => edit_text(alloc, self.history.define(alloc, live, rest)),
-            b"drop" => match key_in(alloc, rest)? {
-                Some(key) => edit_text(alloc, self.history.drop_last(alloc, live, &key)),
-                None => line_of(alloc, b"no key"),
-            },
-            b"switch" => {
-                let settings = settings_of(alloc, rest)?;
-                edit_text(alloc, self.history.switch(alloc, live, settings))
-            }
-            b"append" => {
-                let made = self.history.append(alloc, live, &mut self.files, rest);
-                edit_text(alloc, made)
-            }
-            b"undo" => undone_text(alloc, self.history.undo(alloc, live)),
-            b"redo" => undone_text(alloc, self.history.redo(alloc, live)),
-            _ => line_of(alloc, b"no call"),
+        match call {
+            Call::Value => put_value(alloc, &mut self.live, argument, &mut self.steps, out),
+            Call::Lines => put_lines(&self.live, out),
+            Call::Edit(edit) => self.put_edit(alloc, edit, argument, out),
+            Call::Undo => self.put_undone(alloc, out),
+            Call::Redo => self.put_redone(alloc, out),
         }
     }
-}
 
-// Returns the value of an expression, or a message that there is none.
-fn value_text<L: Ledger>(
-    alloc: Global,
-    live: &mut LiveTable,
-    text: &[u8],
-    steps: &mut Steps<L>,
-) -> Result<Vec<u8>, AllocError>
-    ensures { live.new.deck ≡ live.old.deck }
-{
-    match parse_expr(alloc, text, None) {
-        Ok(tree) => match live.value(alloc, &tree, steps) {
-            Ok(value) => Ok(value.show(alloc, Style::Exact)?.into_bytes()),
-            Err(QueryFault::OutOfMemory) => Err(AllocError),
-            Err(_) => line_of(alloc, b"no value"),
-        },
-        Err(ParseFault::OutOfMemory) => Err(AllocError),
-        Err(_) => line_of(alloc, b"no expression"),
-    }
-}
-
-// Returns the lines of the deck, each followed by `;`.
-fn lines_text(alloc: Global, live: &LiveTable) -> Result<Vec<u8>, AllocError> {
-    let mut text = Vec::new(alloc);
-    let lines = live.deck().lines();
-    for place in 0..lines.len() {
-        let Some(line) = lines.get(place) else {
-            continue;
+    // Makes an edit.
+    fn put_edit(
+        &mut self,
+        alloc: Global,
+        edit: Edit,
+        argument: &[u8],
+        out: &mut Vec<u8>,
+    ) -> Result<(), AllocError>
+        requires { IsHistoryOf self.old.history self.old.live.deck }
+        ensures { IsHistoryOf self.new.history self.new.live.deck }
+    {
+        let live = &mut self.live;
+        let made = match edit {
+            Edit::Define => self.history.define(alloc, live, argument),
+            Edit::DropLast => return self.put_drop(alloc, argument, out),
+            Edit::Switch => {
+                let settings = settings_of(alloc, argument)?;
+                self.history.switch(alloc, live, settings)
+            }
+            Edit::Append => self.history.append(alloc, live, &mut self.files, argument),
         };
-        text.extend_from_slice(line.text.as_bytes())?;
-        text.push(b';')?;
+        out.extend_from_slice(edit_text(&made))
     }
-    Ok(text)
-}
 
-// Returns whether an edit was undone or redone.
-fn undone_text(alloc: Global, made: Result<(), HistoryFault>) -> Result<Vec<u8>, AllocError> {
-    match made {
-        Ok(()) => line_of(alloc, b"ok"),
-        Err(HistoryFault::NothingToUndo) => line_of(alloc, b"nothing to undo"),
-        Err(HistoryFault::NothingToRedo) => line_of(alloc, b"nothing to redo"),
-        Err(HistoryFault::OutOfMemory) => line_of(alloc, b"out of memory"),
+    // Drops the last line of the key that `text` names.
+    fn put_drop(&mut self, alloc: Global, text: &[u8], out: &mut Vec<u8>) -> Result<(), AllocError>
+        requires { IsHistoryOf self.old.history self.old.live.deck }
+        ensures { IsHistoryOf self.new.history self.new.live.deck }
+    {
+        let Some(key) = key_in(alloc, text)? else {
+            return out.extend_from_slice(b"no key");
+        };
+        let made = self.history.drop_last(alloc, &mut self.live, &key);
+        out.extend_from_slice(edit_text(&made))
+    }
+
+    // Undoes the last edit.
+    fn put_undone(&mut self, alloc: Global, out: &mut Vec<u8>) -> Result<(), AllocError>
+        requires { IsHistoryOf self.old.history self.old.live.deck }
+        ensures { IsHistoryOf self.new.history self.new.live.deck }
+    {
+        let undone = self.history.undo(alloc, &mut self.live);
+        out.extend_from_slice(undone_text(undone))
+    }
+
+    // Redoes the last edit that was undone.
+    fn put_redone(&mut self, alloc: Global, out: &mut Vec<u8>) -> Result<(), AllocError>
+        requires { IsHistoryOf self.old.history self.old.live.deck }
+        ensures { IsHistoryOf self.new.history self.new.live.deck }
+    {
+        let redone = self.history.redo(alloc, &mut self.live);
+        out.extend_from_slice(undone_text(redone))
     }
 }

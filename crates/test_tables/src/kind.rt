@@ -1,14 +1,15 @@
 //! The kinds of calls, and the load before them.
 
+use crate::edit_calls::settings_of;
 use crate::history_board::history_answers;
 use crate::reply_board::reply_answers;
-use crate::texts::settings_of;
 use crate::value_board::value_answers;
 use deck::{Deck, DeckFault};
 use def_entry::cut_at;
 use live_table::LiveTable;
 use std::alloc::{AllocError, Global};
 use std::sync::ledger::Ledger;
+use test_lines::meaning_of;
 use units_io::{Files, Steps};
 
 // A kind of calls.
@@ -22,14 +23,16 @@ pub(crate) enum Kind {
     Answers,
 }
 
+// The names of kinds.
+const NAMES: &[(&[u8], Kind)] = &[
+    (b"values", Kind::Values),
+    (b"history", Kind::History),
+    (b"answers", Kind::Answers),
+];
+
 // Returns the kind with this name.
 pub(crate) fn read_kind(name: &[u8]) -> Option<Kind> {
-    match name {
-        b"values" => Some(Kind::Values),
-        b"history" => Some(Kind::History),
-        b"answers" => Some(Kind::Answers),
-        _ => None,
-    }
+    meaning_of(NAMES, name)
 }
 
 // Returns the answers to the lines. The first line, `load FILE`, loads a deck; if that fails, its answer is the only
@@ -45,23 +48,35 @@ pub(crate) fn answers_to<F: Files + Drop, L: Ledger>(
     let Some(name) = first.strip_prefix(b"load ".as_slice()) else {
         return Vec::from_slice(alloc, b"no deck\n");
     };
+    match load(alloc, &mut files, name) {
+        Ok(live) => match kind {
+            Kind::Values => value_answers(alloc, files, live, steps, calls),
+            Kind::History => history_answers(alloc, files, live, steps, calls),
+            Kind::Answers => reply_answers(alloc, live, steps, calls),
+        },
+        Err(fault) => load_fault_answer(alloc, kind, &fault),
+    }
+}
+
+// Loads the table of a file.
+fn load<F: Files>(alloc: Global, files: &mut F, name: &[u8]) -> Result<LiveTable, DeckFault> {
     let settings = settings_of(alloc, b"en_US")?;
-    let live = match Deck::load(alloc, &mut files, name, settings) {
-        Ok(deck) => LiveTable::new(alloc, deck),
-        Err(DeckFault::OutOfMemory) => return Err(AllocError),
-        Err(fault) => return Vec::from_slice(alloc, load_fault_text(kind, &fault)),
-    };
-    match kind {
-        Kind::Values => value_answers(alloc, files, live, steps, calls),
-        Kind::History => history_answers(alloc, files, live, steps, calls),
-        Kind::Answers => reply_answers(alloc, live, steps, calls),
+    let deck = Deck::load(alloc, files, name, settings)?;
+    Ok(LiveTable::new(alloc, deck))
+}
+
+// Returns a line that says why the load of a file failed.
+fn load_fault_answer(alloc: Global, kind: Kind, fault: &DeckFault) -> Result<Vec<u8>, AllocError> {
+    match fault {
+        DeckFault::OutOfMemory => Err(AllocError),
+        fault => Vec::from_slice(alloc, load_fault_text(kind, fault)),
     }
 }
 
 // Returns a line that says why the load of a file failed. Calls for values have an answer for each reason.
 fn load_fault_text(kind: Kind, fault: &DeckFault) -> &'static [u8] {
     match (kind, fault) {
-        (Kind::History, _) | (Kind::Answers, _) => b"no deck\n",
+        (Kind::History | Kind::Answers, _) => b"no deck\n",
         (Kind::Values, DeckFault::Absent) => b"absent\n",
         (Kind::Values, DeckFault::TooLong) => b"too long\n",
         (Kind::Values, DeckFault::ReadFailed) => b"read failed\n",

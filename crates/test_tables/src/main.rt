@@ -4,11 +4,14 @@
 #![tactic(auto)]
 
 mod choice;
+mod edit_calls;
 mod history_board;
+mod history_texts;
 mod kind;
 mod reply_board;
-mod texts;
 mod value_board;
+mod value_calls;
+mod value_texts;
 
 ghost use Rattle.std.specs.Prelude.{◌≡◌, ◌<◌};
 

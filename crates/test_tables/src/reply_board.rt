@@ -9,8 +9,38 @@ use reply::{FromValue, Options, Reply, convert_reply, definition_reply, from_val
 use std::alloc::{AllocError, Global};
 use std::sync::ledger::Ledger;
 use survey::{check_report, conformable_reply, search_report};
-use test_lines::{Answers, CallFault, put_answers, put_line, split_at_space};
+use test_lines::{Answers, CallFault, meaning_of, put_answers, put_line, split_at_space};
 use units_io::Steps;
+
+// A call, without its argument.
+#[derive(Clone, Copy)]
+enum Call {
+    // `options WORD..` sets the options for the following calls.
+    Options,
+    // `convert FROM to TO`.
+    Convert,
+    // `define FROM`.
+    Define,
+    // `conformable FROM`: a report on the units that conform.
+    Conformable,
+    // `search TEXT`.
+    Search,
+    // `check`.
+    Check,
+    // `value FROM`: the value of FROM.
+    Value,
+}
+
+// The words of calls.
+const WORDS: &[(&[u8], Call)] = &[
+    (b"options", Call::Options),
+    (b"convert", Call::Convert),
+    (b"define", Call::Define),
+    (b"conformable", Call::Conformable),
+    (b"search", Call::Search),
+    (b"check", Call::Check),
+    (b"value", Call::Value),
+];
 
 // The state between calls: the table, the options for the following calls, and the steps of queries.
 #[derive(Drop)]
@@ -20,10 +50,8 @@ struct Board<L: Ledger> {
     steps: Steps<L>,
 }
 
-// Returns the answers to a load and to the calls on its table. `convert FROM to TO` and `define FROM` answer with a
-// reply, `value FROM` with the value of FROM, and `check`, `search TEXT` and `conformable FROM` with a report.
-// `options WORD..` sets the options for the following calls. A refused reply, and a fault in place of a value or a
-// report, are followed by a line that marks the refusal.
+// Returns the answers to a load and to the calls on its table: replies, reports and values. A refused reply, and a fault
+// in place of a value or a report, are followed by a line that marks the refusal.
 pub(crate) fn reply_answers<L: Ledger>(
     alloc: Global,
     live: LiveTable,
@@ -52,56 +80,122 @@ impl<L: Ledger> Answers for Board<L> {
         line: &[u8],
         out: &mut Vec<u8>,
     ) -> Result<(), CallFault> {
-        let (word, rest) = split_at_space(line);
-        match word {
-            b"options" => match read_options(rest) {
-                Some(options) => {
-                    self.options = options;
-                    Ok(put_line(out, b"ok")?)
-                }
-                None => Err(CallFault::BadCall),
-            },
-            b"search" => {
-                let report = search_report(alloc, &self.live, rest)?;
-                Ok(out.extend_from_slice(report.as_bytes())?)
-            }
-            b"check" if rest.is_empty() => {
-                let report = check_report(alloc, &mut self.live, &self.options, &mut self.steps)?;
-                Ok(out.extend_from_slice(report.as_bytes())?)
-            }
-            b"value" => {
-                let value = from_value(
-                    alloc,
-                    &mut self.live,
-                    &self.options,
-                    rest,
-                    &mut self.steps,
-                )?;
-                Ok(put_value(alloc, out, &value)?)
-            }
-            _ => Ok(put_reply(out, &self.reply_to(alloc, word, rest)?)?),
-        }
+        let (word, argument) = split_at_space(line);
+        let Some(call) = meaning_of(WORDS, word) else {
+            return Err(CallFault::BadCall);
+        };
+        self.put_call(alloc, call, argument, out)
     }
 }
 
 impl<L: Ledger> Board<L> {
-    // Returns the reply to a conversion, a definition or a call for units that conform.
-    fn reply_to(&mut self, alloc: Global, word: &[u8], rest: &[u8]) -> Result<Reply, CallFault>
+    // Appends the answer to a call.
+    fn put_call(
+        &mut self,
+        alloc: Global,
+        call: Call,
+        argument: &[u8],
+        out: &mut Vec<u8>,
+    ) -> Result<(), CallFault>
         requires { AreReplyOptionsPrintable self.old.options }
         ensures { AreReplyOptionsPrintable self.new.options }
     {
-        let live = &mut self.live;
-        let steps = &mut self.steps;
-        match word {
-            b"convert" => match cut_at_to(rest) {
-                Some((from, to)) => {
-                    Ok(convert_reply(alloc, live, &self.options, from, to, steps)?)
-                }
-                None => Err(CallFault::BadCall),
-            },
-            b"define" => Ok(definition_reply(alloc, live, &self.options, rest, steps)?),
-            b"conformable" => Ok(conformable_reply(alloc, live, &self.options, rest, steps)?),
-            _ => Err(CallFault::BadCall),
+        let answered = match call {
+            Call::Options => return self.put_options(argument, out),
+            Call::Convert => return self.put_conversion(alloc, argument, out),
+            Call::Check if argument.is_empty() => self.put_check(alloc, out),
+            Call::Check => return Err(CallFault::BadCall),
+            Call::Define => self.put_definition(alloc, argument, out),
+            Call::Conformable => self.put_conformable(alloc, argument, out),
+            Call::Search => self.put_search(alloc, argument, out),
+            Call::Value => self.put_value(alloc, argument, out),
+        };
+        Ok(answered?)
+    }
+
+    // Sets the options for the following calls.
+    fn put_options(&mut self, words: &[u8], out: &mut Vec<u8>) -> Result<(), CallFault>
+        requires { AreReplyOptionsPrintable self.old.options }
+        ensures { AreReplyOptionsPrintable self.new.options }
+    {
+        let Some(options) = read_options(words) else {
+            return Err(CallFault::BadCall);
+        };
+        self.options = options;
+        Ok(put_line(out, b"ok")?)
+    }
+
+    // Appends the reply to a conversion.
+    fn put_conversion(
+        &mut self,
+        alloc: Global,
+        text: &[u8],
+        out: &mut Vec<u8>,
+    ) -> Result<(), CallFault>
+        requires { AreReplyOptionsPrintable self.old.options }
+        ensures { AreReplyOptionsPrintable self.new.options }
+    {
+        let Some((from, to)) = cut_at_to(text) else {
+            return Err(CallFault::BadCall);
+        };
+        let (live, steps) = (&mut self.live, &mut self.steps);
+        let reply = convert_reply(alloc, live, &self.options, from, to, steps)?;
+        Ok(put_reply(out, &reply)?)
+    }
+
+    // Appends the reply to a definition.
+    fn put_definition(
+        &mut self,
+        alloc: Global,
+        from: &[u8],
+        out: &mut Vec<u8>,
+    ) -> Result<(), AllocError>
+        requires { AreReplyOptionsPrintable self.old.options }
+        ensures { AreReplyOptionsPrintable self.new.options }
+    {
+        let (live, steps) = (&mut self.live, &mut self.steps);
+        let reply = definition_reply(alloc, live, &self.options, from, steps)?;
+        put_reply(out, &reply)
+    }
+
+    // Appends the report on the units that conform.
+    fn put_conformable(
+        &mut self,
+        alloc: Global,
+        from: &[u8],
+        out: &mut Vec<u8>,
+    ) -> Result<(), AllocError>
+        requires { AreReplyOptionsPrintable self.old.options }
+        ensures { AreReplyOptionsPrintable self.new.options }
+    {
+        let (live, steps) = (&mut self.live, &mut self.steps);
+        let reply = conformable_reply(alloc, live, &self.options, from, steps)?;
+        put_reply(out, &reply)
+    }
+
+    // Appends the report on a search.
+    fn put_search(&self, alloc: Global, text: &[u8], out: &mut Vec<u8>) -> Result<(), AllocError> {
+        out.extend_from_slice(search_report(alloc, &self.live, text)?.as_bytes())
+    }
+
+    // Appends the report of the check.
+    fn put_check(&mut self, alloc: Global, out: &mut Vec<u8>) -> Result<(), AllocError>
+        requires { AreReplyOptionsPrintable self.old.options }
+        ensures { AreReplyOptionsPrintable self.new.options }
+    {
+        let report = check_report(alloc, &mut self.live, &self.options, &mut self.steps)?;
+        out.extend_from_slice(report.as_bytes())
+    }
+
+    // Appends the exact value of a text, or its fault as a refused line.
+    fn put_value(&mut self, alloc: Global, from: &[u8], out: &mut Vec<u8>) -> Result<(), AllocError>
+        requires { AreReplyOptionsPrintable self.old.options }
+        ensures { AreReplyOptionsPrintable self.new.options }
+    {
+        let (live, steps) = (&mut self.live, &mut self.steps);
+        match &from_value(alloc, live, &self.options, from, steps)? {
+            FromValue::Good(value) => put_line(out, value.show(alloc, Style::Exact)?.as_bytes()),
+            FromValue::Bad(text) => put_refused(out, text.as_bytes()),
         }
     }
 }
@@ -115,15 +209,10 @@ fn put_reply(out: &mut Vec<u8>, reply: &Reply) -> Result<(), AllocError> {
     Ok(())
 }
 
-// Appends the exact value, or the text of the fault as a refused line.
-fn put_value(alloc: Global, out: &mut Vec<u8>, value: &FromValue) -> Result<(), AllocError> {
-    match value {
-        FromValue::Good(value) => put_line(out, value.show(alloc, Style::Exact)?.as_bytes()),
-        FromValue::Bad(text) => {
-            out.extend_from_slice(text.as_bytes())?;
-            out.extend_from_slice(b"\nrefused\n")
-        }
-    }
+// Appends a fault as a refused line.
+fn put_refused(out: &mut Vec<u8>, fault: &[u8]) -> Result<(), AllocError> {
+    out.extend_from_slice(fault)?;
+    out.extend_from_slice(b"\nrefused\n")
 }
 
 // Splits a text at the first ` to ` into the parts before and after it.

@@ -1,118 +1,173 @@
 //! The answers to calls on quantities, lists of units and tables of points.
 
-use crate::amount_reading::{parted, read_points, read_quantity, read_units};
-use crate::amount_text::{
-    counts_text, exact_text, exponent_text, quantity_text, reading_text, yes_or_no,
-};
-use crate::reading::{read_count, read_fraction};
-use frac128::Frac;
-use piecewise::{Points, PointsFault};
-use quantity::{Quantity, Style};
+use crate::amount_calls::{AmountCall, Copying, Operator, Pair, Relation, amount_call};
+use crate::amount_reading::{parted, read_quantity};
+use crate::amount_text::{put_exponent, put_quantity, put_result, put_truth};
+use crate::lists::put_split;
+use crate::reading::read_count;
+use crate::tables::put_reading;
+use quantity::{Quantity, QuantityFault, Style};
 use std::alloc::{AllocError, Global};
 use test_lines::{CallFault, split_at_space};
-use unit_list::split;
-use units_io::Text;
 
-// Returns the answer to a call: a word, a space and the arguments of the word, separated by `;`.
-pub(crate) fn amount_answer(alloc: Global, line: &[u8]) -> Result<Text, CallFault> {
-    let (word, rest) = split_at_space(line);
-    let (left, right) = parted(rest, b';');
-    match word {
-        b"at" | b"back" => {
-            let x = read_fraction(left)?;
-            let points = read_points(alloc, right)?;
-            Ok(table_text(alloc, word, points.as_slice(), &x)?)
-        }
-        b"digits" => {
-            let count = read_count(left)?;
-            let x = read_quantity(alloc, right)?;
-            Ok(x.show(alloc, Style::Digits(count.value))?)
-        }
-        b"negate" | b"negated" | b"copy" | b"number" => {
-            let x = read_quantity(alloc, rest)?;
-            Ok(single_text(alloc, word, &x)?)
-        }
-        _ => {
-            let x = read_quantity(alloc, left)?;
-            two_answer(alloc, word, &x, right)
-        }
-    }
-}
-
-// Returns the answer to a call on one quantity. `negate` borrows the quantity and `negated` takes ownership of a copy.
-fn single_text(alloc: Global, word: &[u8], x: &Quantity) -> Result<Text, AllocError> {
-    match word {
-        b"negate" => exact_text(alloc, &x.negate(alloc)?),
-        b"negated" => exact_text(alloc, &x.copy(alloc)?.into_negative()),
-        b"copy" => exact_text(alloc, &x.copy(alloc)?),
-        _ => yes_or_no(alloc, x.is_number()),
-    }
-}
-
-// Returns the answer to a call on a quantity and a second argument.
-fn two_answer(alloc: Global, word: &[u8], x: &Quantity, right: &[u8]) -> Result<Text, CallFault> {
-    match word {
-        b"exponent" => Ok(exponent_text(alloc, &x.exponent(right))?),
-        b"split" | b"round" => {
-            let units = read_units(alloc, right)?;
-            let round = word == b"round".as_slice();
-            Ok(split_text(alloc, x, units.as_slice(), round)?)
-        }
-        _ => {
-            let y = read_quantity(alloc, right)?;
-            pair_answer(alloc, word, x, &y)
-        }
-    }
-}
-
-// Returns the answer to a call on two quantities. The first word for a step borrows the left quantity, and the second
-// one takes ownership of a copy.
-fn pair_answer(alloc: Global, word: &[u8], x: &Quantity, y: &Quantity) -> Result<Text, CallFault> {
-    match word {
-        b"conforms" => Ok(yes_or_no(alloc, x.conforms(y))?),
-        b"reciprocal" => Ok(yes_or_no(alloc, x.is_reciprocal(y))?),
-        b"add" => Ok(quantity_text(alloc, x.add(alloc, y))?),
-        b"plus" => Ok(quantity_text(alloc, x.copy(alloc)?.plus(alloc, y))?),
-        b"sub" => Ok(quantity_text(alloc, x.sub(alloc, y))?),
-        b"minus" => Ok(quantity_text(alloc, x.copy(alloc)?.minus(alloc, y))?),
-        b"mul" => Ok(quantity_text(alloc, x.mul(alloc, y))?),
-        b"times" => Ok(quantity_text(alloc, x.copy(alloc)?.times(alloc, y))?),
-        b"div" => Ok(quantity_text(alloc, x.div(alloc, y))?),
-        b"over" => Ok(quantity_text(alloc, x.copy(alloc)?.over(alloc, y))?),
-        b"pow" => Ok(quantity_text(alloc, x.pow(alloc, y))?),
-        b"raised" => Ok(quantity_text(alloc, x.copy(alloc)?.into_power(alloc, y))?),
-        _ => Err(CallFault::BadCall),
-    }
-}
-
-// Returns the text of the counts of units in a quantity.
-fn split_text(
+// Appends the answer to a call: a word, a space and the arguments of the word, separated by `;`.
+pub(crate) fn put_amount_answer(
     alloc: Global,
-    x: &Quantity,
-    units: &[Quantity],
-    round: bool,
-) -> Result<Text, AllocError> {
-    if units.is_empty() {
-        return Text::from_bytes(alloc, b"no unit");
+    line: &[u8],
+    out: &mut Vec<u8>,
+) -> Result<(), CallFault> {
+    let (word, arguments) = split_at_space(line);
+    match amount_call(word) {
+        Some(AmountCall::IsNumber) => put_kind(alloc, arguments, out),
+        Some(AmountCall::Copy(copying)) => put_copy(alloc, copying, arguments, out),
+        Some(AmountCall::Pair(call)) => {
+            let (left, right) = parted(arguments, b';');
+            put_pair(alloc, call, left, right, out)
+        }
+        None => Err(CallFault::BadCall),
     }
-    counts_text(alloc, split(alloc, x, units, round))
 }
 
-// Builds a table, reads a copy of it, and returns the text of the result.
-fn table_text(
+// Appends whether a quantity is a number.
+fn put_kind(alloc: Global, text: &[u8], out: &mut Vec<u8>) -> Result<(), CallFault> {
+    let x = read_quantity(alloc, text)?;
+    Ok(put_truth(x.is_number(), out)?)
+}
+
+// Appends a copy of a quantity, or its opposite.
+fn put_copy(
     alloc: Global,
-    word: &[u8],
-    points: &[(Frac, Frac)],
-    x: &Frac,
-) -> Result<Text, AllocError> {
-    let table = match Points::new(alloc, points) {
-        Ok(table) => table.copy(alloc)?,
-        Err(PointsFault::BadPoints) => return Text::from_bytes(alloc, b"no table"),
-        Err(PointsFault::OutOfMemory) => return Err(AllocError),
+    copying: Copying,
+    text: &[u8],
+    out: &mut Vec<u8>,
+) -> Result<(), CallFault> {
+    let x = read_quantity(alloc, text)?;
+    let copy = copy_of(alloc, copying, &x)?;
+    Ok(put_quantity(alloc, &copy, out)?)
+}
+
+// Copies a quantity, or returns its opposite.
+fn copy_of(alloc: Global, copying: Copying, x: &Quantity) -> Result<Quantity, AllocError> {
+    match copying {
+        Copying::Same => x.copy(alloc),
+        Copying::Negate => x.negate(alloc),
+        Copying::Negated => Ok(x.copy(alloc)?.into_negative()),
+    }
+}
+
+// Appends the answer to a call with two arguments.
+fn put_pair(
+    alloc: Global,
+    call: Pair,
+    left: &[u8],
+    right: &[u8],
+    out: &mut Vec<u8>,
+) -> Result<(), CallFault> {
+    match call {
+        Pair::Reading(direction) => put_reading(alloc, direction, left, right, out),
+        Pair::Digits => put_digits(alloc, left, right, out),
+        Pair::Exponent => put_exponent_of(alloc, left, right, out),
+        Pair::Split { round } => put_split(alloc, round, left, right, out),
+        Pair::Relation(relation) => put_relation(alloc, relation, left, right, out),
+        Pair::Borrow(operator) => put_borrowing(alloc, operator, left, right, out),
+        Pair::Own(operator) => put_owning(alloc, operator, left, right, out),
+    }
+}
+
+// Appends a quantity, rounded to a number of digits.
+fn put_digits(
+    alloc: Global,
+    count: &[u8],
+    text: &[u8],
+    out: &mut Vec<u8>,
+) -> Result<(), CallFault> {
+    let style = Style::Digits(read_count(count)?.value);
+    let x = read_quantity(alloc, text)?;
+    Ok(x.put(alloc, out, style)?)
+}
+
+// Appends the exponent of a name in a quantity.
+fn put_exponent_of(
+    alloc: Global,
+    text: &[u8],
+    name: &[u8],
+    out: &mut Vec<u8>,
+) -> Result<(), CallFault> {
+    let x = read_quantity(alloc, text)?;
+    Ok(put_exponent(alloc, &x.exponent(name), out)?)
+}
+
+// Appends whether a relation of two quantities holds.
+fn put_relation(
+    alloc: Global,
+    relation: Relation,
+    left: &[u8],
+    right: &[u8],
+    out: &mut Vec<u8>,
+) -> Result<(), CallFault> {
+    let x = read_quantity(alloc, left)?;
+    let y = read_quantity(alloc, right)?;
+    let holds = match relation {
+        Relation::Conforms => x.conforms(&y),
+        Relation::IsReciprocal => x.is_reciprocal(&y),
     };
-    if word == b"at".as_slice() {
-        reading_text(alloc, table.at(x))
-    } else {
-        reading_text(alloc, table.back(x))
+    Ok(put_truth(holds, out)?)
+}
+
+// Appends the result of a step that borrows the first quantity.
+fn put_borrowing(
+    alloc: Global,
+    operator: Operator,
+    left: &[u8],
+    right: &[u8],
+    out: &mut Vec<u8>,
+) -> Result<(), CallFault> {
+    let x = read_quantity(alloc, left)?;
+    let y = read_quantity(alloc, right)?;
+    Ok(put_result(alloc, &borrowing_result(alloc, operator, &x, &y), out)?)
+}
+
+// Makes a step that borrows the first quantity.
+fn borrowing_result(
+    alloc: Global,
+    operator: Operator,
+    x: &Quantity,
+    y: &Quantity,
+) -> Result<Quantity, QuantityFault> {
+    match operator {
+        Operator::Add => x.add(alloc, y),
+        Operator::Sub => x.sub(alloc, y),
+        Operator::Mul => x.mul(alloc, y),
+        Operator::Div => x.div(alloc, y),
+        Operator::Pow => x.pow(alloc, y),
+    }
+}
+
+// Appends the result of a step that takes ownership of the first quantity.
+fn put_owning(
+    alloc: Global,
+    operator: Operator,
+    left: &[u8],
+    right: &[u8],
+    out: &mut Vec<u8>,
+) -> Result<(), CallFault> {
+    let y = read_quantity(alloc, right)?;
+    let x = read_quantity(alloc, left)?;
+    Ok(put_result(alloc, &owning_result(alloc, operator, x, &y), out)?)
+}
+
+// Makes a step that takes ownership of the first quantity.
+fn owning_result(
+    alloc: Global,
+    operator: Operator,
+    x: Quantity,
+    y: &Quantity,
+) -> Result<Quantity, QuantityFault> {
+    match operator {
+        Operator::Add => x.plus(alloc, y),
+        Operator::Sub => x.minus(alloc, y),
+        Operator::Mul => x.times(alloc, y),
+        Operator::Div => x.over(alloc, y),
+        Operator::Pow => x.into_power(alloc, y),
     }
 }

@@ -3,7 +3,6 @@
 use def_entry::{Entry, FunctionDef, Key, What, key_text};
 use std::alloc::{AllocError, Global};
 use test_lines::{key_in, put_count};
-use units_io::Text;
 
 // Appends the text of a key, a description of its entry, and the text of its entry, separated by bars. The key is
 // written, read and written again, and the entry is that of a copy.
@@ -14,21 +13,36 @@ pub(crate) fn put_entry(
     what: &What,
     line: &[u8],
 ) -> Result<(), AllocError> {
-    let what = &what.copy(alloc)?;
-    out.extend_from_slice(copied_key_text(alloc, key)?.as_bytes())?;
-    out.extend_from_slice(b" | ")?;
-    put_what(alloc, out, what)?;
-    out.extend_from_slice(b" | ")?;
-    out.extend_from_slice(Entry { line, what }.text())
+    put_copied_key(alloc, out, key)?;
+    put_copied_entry(alloc, out, line, what)
 }
 
-// Returns the text of a key after it was written and read.
-fn copied_key_text(alloc: Global, key: &Key) -> Result<Text, AllocError> {
+// Appends the text of a key after it was written and read.
+fn put_copied_key(alloc: Global, out: &mut Vec<u8>, key: &Key) -> Result<(), AllocError> {
     let text = key_text(alloc, key)?;
     match key_in(alloc, text.as_bytes())? {
-        Some(read) => key_text(alloc, &read),
-        None => Ok(text),
+        Some(read) => out.extend_from_slice(key_text(alloc, &read)?.as_bytes()),
+        None => out.extend_from_slice(text.as_bytes()),
     }
+}
+
+// Appends the entry of a copy.
+fn put_copied_entry(
+    alloc: Global,
+    out: &mut Vec<u8>,
+    line: &[u8],
+    what: &What,
+) -> Result<(), AllocError> {
+    let what = what.copy(alloc)?;
+    put_parts(alloc, out, Entry { line, what: &what })
+}
+
+// Appends a description of an entry and its text, each after a bar.
+fn put_parts(alloc: Global, out: &mut Vec<u8>, entry: Entry<'_>) -> Result<(), AllocError> {
+    out.extend_from_slice(b" | ")?;
+    put_what(alloc, out, entry.what)?;
+    out.extend_from_slice(b" | ")?;
+    out.extend_from_slice(entry.text())
 }
 
 // Appends a short description of an entry.

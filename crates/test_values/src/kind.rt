@@ -1,11 +1,11 @@
 //! The kinds of calls.
 
-use crate::amounts::amount_answer;
-use crate::numbers::number_answer;
+use crate::amounts::put_amount_answer;
+use crate::numbers::put_number_answer;
 use crate::report::report_to;
-use crate::texts::text_answer;
+use crate::texts::put_text_answer;
 use std::alloc::{AllocError, Global};
-use test_lines::{Answers, CallFault, put_answers, put_line};
+use test_lines::{Answers, CallFault, meaning_of, put_answers};
 
 // A kind of calls.
 #[derive(Clone, Copy)]
@@ -20,15 +20,17 @@ pub(crate) enum Kind {
     Entries,
 }
 
+// The names of kinds.
+const NAMES: &[(&[u8], Kind)] = &[
+    (b"numbers", Kind::Numbers),
+    (b"amounts", Kind::Amounts),
+    (b"texts", Kind::Texts),
+    (b"entries", Kind::Entries),
+];
+
 // Returns the kind with this name.
 pub(crate) fn read_kind(name: &[u8]) -> Option<Kind> {
-    match name {
-        b"numbers" => Some(Kind::Numbers),
-        b"amounts" => Some(Kind::Amounts),
-        b"texts" => Some(Kind::Texts),
-        b"entries" => Some(Kind::Entries),
-        _ => None,
-    }
+    meaning_of(NAMES, name)
 }
 
 // Returns the answers to all lines.
@@ -49,12 +51,12 @@ impl Answers for Kind {
         line: &[u8],
         out: &mut Vec<u8>,
     ) -> Result<(), CallFault> {
-        let answer = match self {
-            Kind::Numbers => number_answer(alloc, line)?,
-            Kind::Amounts => amount_answer(alloc, line)?,
-            Kind::Texts => text_answer(alloc, line)?,
+        match self {
+            Kind::Numbers => put_number_answer(alloc, line, out)?,
+            Kind::Amounts => put_amount_answer(alloc, line, out)?,
+            Kind::Texts => put_text_answer(alloc, line, out)?,
             Kind::Entries => return Err(CallFault::BadCall),
-        };
-        Ok(put_line(out, answer.as_bytes())?)
+        }
+        Ok(out.extend_from_slice(b"\n")?)
     }
 }

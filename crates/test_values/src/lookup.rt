@@ -9,7 +9,7 @@ use def_entry::{Key, Keys, Kind, key_text};
 use expr_tree::WordKind;
 use name_lookup::{Looking, Present, resolve};
 use std::alloc::{AllocError, Global};
-use test_lines::{CallFault, key_in, split_at_space};
+use test_lines::{CallFault, key_in, meaning_of, split_at_space};
 use units_io::Text;
 
 // A list of keys as a table.
@@ -88,39 +88,53 @@ impl Looking for Looked {
     }
 }
 
-// Returns the answer to a lookup, given the position of the word, the word and the keys.
-pub(crate) fn lookup_answer(alloc: Global, text: &[u8]) -> Result<Text, CallFault> {
-    let (place, text) = split_at_space(text);
+// The words for the positions of a word.
+const POSITIONS: &[(&[u8], WordKind)] = &[
+    (b"plain", WordKind::Plain),
+    (b"call", WordKind::Call),
+    (b"inverse", WordKind::Inverse),
+];
+
+// Appends the answer to a lookup, given the position of the word, the word and the keys.
+pub(crate) fn put_lookup(alloc: Global, text: &[u8], out: &mut Vec<u8>) -> Result<(), CallFault> {
+    let (position, text) = split_at_space(text);
     let (word, keys) = split_at_space(text);
-    let kind = match place {
-        b"plain" => WordKind::Plain,
-        b"call" => WordKind::Call,
-        b"inverse" => WordKind::Inverse,
-        _ => return Err(CallFault::BadCall),
+    let Some(kind) = meaning_of(POSITIONS, position) else {
+        return Err(CallFault::BadCall);
     };
-    Ok(found_text(alloc, &Table::read(alloc, keys)?, word, kind)?)
+    let table = Table::read(alloc, keys)?;
+    Ok(put_found(alloc, &table, word, kind, out)?)
 }
 
-// Returns the keys that a word of this kind leads to, which are the last of those that were looked at, and all of
+// Appends the keys that a word of this kind leads to, which are the last of those that were looked at, and all of
 // these.
-fn found_text(
+fn put_found(
     alloc: Global,
     table: &Table,
     word: &[u8],
     kind: WordKind,
-) -> Result<Text, AllocError> {
+    out: &mut Vec<u8>,
+) -> Result<(), AllocError> {
     let keys = Keys::new(alloc);
     let mut looked = Looked { keys };
     let count = resolve(alloc, table, &mut looked, word, kind)?.count();
-    let keys = looked.keys.as_slice();
-    let mut out = Vec::from_slice(alloc, b"found")?;
-    put_keys(alloc, &mut out, &keys[keys.len().saturating_sub(count)..])?;
-    out.extend_from_slice(b"; looked at")?;
-    put_keys(alloc, &mut out, keys)?;
-    Ok(Text::from(out))
+    put_looked(alloc, looked.keys.as_slice(), count, out)
 }
 
-// Appends the texts of keys, each after a blank.
+// Appends the last `count` keys, and all keys.
+fn put_looked(
+    alloc: Global,
+    keys: &[Key],
+    count: usize,
+    out: &mut Vec<u8>,
+) -> Result<(), AllocError> {
+    out.extend_from_slice(b"found")?;
+    put_keys(alloc, out, &keys[keys.len().saturating_sub(count)..])?;
+    out.extend_from_slice(b"; looked at")?;
+    put_keys(alloc, out, keys)
+}
+
+// Appends the texts of keys, each after a space.
 fn put_keys(alloc: Global, out: &mut Vec<u8>, keys: &[Key]) -> Result<(), AllocError> {
     for key in keys {
         out.extend_from_slice(b" ")?;

@@ -2,16 +2,21 @@
 //! their answers to standard output. The first word of the command line names the kind of the calls.
 #![tactic(auto)]
 
+mod amount_calls;
 mod amount_reading;
 mod amount_text;
 mod amounts;
 mod entry_text;
 mod kind;
+mod lists;
 mod lookup;
 mod notation;
+mod number_calls;
 mod numbers;
 mod reading;
 mod report;
+mod tables;
+mod text_calls;
 mod texts;
 
 use kind::{answers_to, read_kind};

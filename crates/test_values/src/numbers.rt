@@ -1,5 +1,6 @@
 //! The answers to calls on fractions, numerals and their texts.
 
+use crate::number_calls::{NumberCall, Operator, Pair, Single, number_call};
 use crate::reading::{read_count, read_fraction, read_whole};
 use def_entry::cut_at;
 use digits_print::{print_digits, print_exact};
@@ -7,85 +8,142 @@ use frac128::{Frac, FracFault, NumeralFault, numeral_len, read_numeral};
 use std::alloc::{AllocError, Global};
 use std::cmp::Ordering;
 use std::num::NonZeroU32;
-use test_lines::CallFault;
-use units_io::Text;
+use test_lines::{CallFault, put_count};
 
-// Returns the answer to a call: a word, a space and the arguments of the word.
-pub(crate) fn number_answer(alloc: Global, line: &[u8]) -> Result<Text, CallFault> {
-    let Some((word, rest)) = cut_at(line, b' ') else {
+// Appends the answer to a call: a word, a space and the arguments of the word.
+pub(crate) fn put_number_answer(
+    alloc: Global,
+    line: &[u8],
+    out: &mut Vec<u8>,
+) -> Result<(), CallFault> {
+    let Some((word, arguments)) = cut_at(line, b' ') else {
         return Err(CallFault::BadCall);
     };
-    match word {
-        b"length" => {
-            let len = numeral_len(rest).to_string(alloc)?;
-            Ok(Text::from(len.into_bytes()))
-        }
-        b"numeral" => Ok(numeral_text(alloc, rest)?),
-        b"zero" => {
-            let is_zero = read_fraction(rest)?.is_zero();
-            Ok(Text::from_bytes(alloc, if is_zero { b"true" } else { b"false" })?)
-        }
-        b"exact" => Ok(print_exact(alloc, &read_fraction(rest)?)?),
-        b"negate" => Ok(print_exact(alloc, &read_fraction(rest)?.negate())?),
-        b"floor" => Ok(print_exact(alloc, &read_fraction(rest)?.floor())?),
-        _ => match cut_at(rest, b' ') {
-            Some((first, second)) => pair_answer(alloc, word, first, second),
-            None => Err(CallFault::BadCall),
-        },
+    match number_call(word) {
+        Some(NumberCall::Length) => Ok(put_count(alloc, out, numeral_len(arguments), b"")?),
+        Some(NumberCall::Numeral) => Ok(put_numeral(alloc, arguments, out)?),
+        Some(NumberCall::Single(call)) => put_single(alloc, call, arguments, out),
+        Some(NumberCall::Pair(call)) => put_pair(alloc, call, arguments, out),
+        None => Err(CallFault::BadCall),
     }
 }
 
-// Returns the answer to a call with two arguments.
-fn pair_answer(alloc: Global, word: &[u8], first: &[u8], second: &[u8]) -> Result<Text, CallFault> {
-    match word {
-        b"digits" => {
-            let count = read_count(first)?;
-            Ok(print_digits(alloc, &read_fraction(second)?, count.value)?)
-        }
-        b"cmp" => {
-            let order = read_fraction(first)?.cmp(&read_fraction(second)?);
-            Ok(Text::from_bytes(alloc, order_text(order))?)
-        }
-        _ => Ok(fraction_text(alloc, step_result(word, first, second)?)?),
+// Appends the exact value of a numeral, or its fault.
+fn put_numeral(alloc: Global, text: &[u8], out: &mut Vec<u8>) -> Result<(), AllocError> {
+    match read_numeral(text) {
+        Ok(numeral) => put_result(alloc, numeral.value(), out),
+        Err(NumeralFault::NotNumeral) => out.extend_from_slice(b"not a numeral"),
+        Err(NumeralFault::TooLong) => out.extend_from_slice(b"too long"),
     }
 }
 
-// Makes a step on fractions and returns its result or its fault.
-fn step_result(
-    word: &[u8],
-    first: &[u8],
-    second: &[u8],
-) -> Result<Result<Frac, FracFault>, CallFault> {
-    match word {
-        b"new" => Ok(Frac::new(read_whole(first)?, read_whole(second)?)),
-        b"pow" => Ok(read_fraction(first)?.pow(read_whole(second)?)),
-        b"root" => {
-            let degree: NonZeroU32 = read_whole(second)?;
-            Ok(read_fraction(first)?.root(degree.get()))
-        }
-        b"add" => Ok(read_fraction(first)?.add(&read_fraction(second)?)),
-        b"sub" => Ok(read_fraction(first)?.sub(&read_fraction(second)?)),
-        b"mul" => Ok(read_fraction(first)?.mul(&read_fraction(second)?)),
-        b"div" => Ok(read_fraction(first)?.div(&read_fraction(second)?)),
-        _ => Err(CallFault::BadCall),
+// Appends the answer to a call on one fraction.
+fn put_single(
+    alloc: Global,
+    call: Single,
+    text: &[u8],
+    out: &mut Vec<u8>,
+) -> Result<(), CallFault> {
+    let x = read_fraction(text)?;
+    let answered = match call {
+        Single::IsZero => out.extend_from_slice(truth_text(x.is_zero())),
+        Single::Exact => put_exact(alloc, &x, out),
+        Single::Negate => put_exact(alloc, &x.negate(), out),
+        Single::Floor => put_exact(alloc, &x.floor(), out),
+    };
+    Ok(answered?)
+}
+
+// Appends the answer to a call with two arguments, which are separated by a space.
+fn put_pair(
+    alloc: Global,
+    call: Pair,
+    arguments: &[u8],
+    out: &mut Vec<u8>,
+) -> Result<(), CallFault> {
+    let Some((first, second)) = cut_at(arguments, b' ') else {
+        return Err(CallFault::BadCall);
+    };
+    let result = match call {
+        Pair::Digits => return put_digits(alloc, first, second, out),
+        Pair::Order => return put_order(first, second, out),
+        Pair::New => quotient(first, second)?,
+        Pair::Power => power(first, second)?,
+        Pair::Root => root(first, second)?,
+        Pair::Operation(operator) => operation(operator, first, second)?,
+    };
+    Ok(put_result(alloc, result, out)?)
+}
+
+// Appends a fraction, rounded to a number of digits.
+fn put_digits(
+    alloc: Global,
+    count: &[u8],
+    fraction: &[u8],
+    out: &mut Vec<u8>,
+) -> Result<(), CallFault> {
+    let count = read_count(count)?;
+    let x = read_fraction(fraction)?;
+    Ok(out.extend_from_slice(print_digits(alloc, &x, count.value)?.as_bytes())?)
+}
+
+// Appends how the first of two fractions compares to the second.
+fn put_order(first: &[u8], second: &[u8], out: &mut Vec<u8>) -> Result<(), CallFault> {
+    let order = read_fraction(first)?.cmp(&read_fraction(second)?);
+    Ok(out.extend_from_slice(order_text(order))?)
+}
+
+// The result of a step on fractions, if the arguments can be read.
+type Step = Result<Result<Frac, FracFault>, CallFault>;
+
+// Divides an integer by another.
+fn quotient(numerator: &[u8], denominator: &[u8]) -> Step {
+    Ok(Frac::new(read_whole(numerator)?, read_whole(denominator)?))
+}
+
+// Raises a fraction to an integer.
+fn power(fraction: &[u8], exponent: &[u8]) -> Step {
+    Ok(read_fraction(fraction)?.pow(read_whole(exponent)?))
+}
+
+// Takes a root of a fraction.
+fn root(fraction: &[u8], degree: &[u8]) -> Step {
+    let degree: NonZeroU32 = read_whole(degree)?;
+    Ok(read_fraction(fraction)?.root(degree.get()))
+}
+
+// Applies an operator to two fractions.
+fn operation(operator: Operator, first: &[u8], second: &[u8]) -> Step {
+    let x = read_fraction(first)?;
+    let y = read_fraction(second)?;
+    Ok(match operator {
+        Operator::Add => x.add(&y),
+        Operator::Sub => x.sub(&y),
+        Operator::Mul => x.mul(&y),
+        Operator::Div => x.div(&y),
+    })
+}
+
+// Appends the exact result of a step, or its fault.
+fn put_result(
+    alloc: Global,
+    outcome: Result<Frac, FracFault>,
+    out: &mut Vec<u8>,
+) -> Result<(), AllocError> {
+    match outcome {
+        Ok(x) => put_exact(alloc, &x, out),
+        Err(fault) => out.extend_from_slice(fault.text()),
     }
 }
 
-// Returns the exact text of a fraction, or the text of a fault.
-fn fraction_text(alloc: Global, answer: Result<Frac, FracFault>) -> Result<Text, AllocError> {
-    match answer {
-        Ok(x) => print_exact(alloc, &x),
-        Err(fault) => Text::from_bytes(alloc, fault.text()),
-    }
+// Appends the exact text of a fraction.
+pub(crate) fn put_exact(alloc: Global, x: &Frac, out: &mut Vec<u8>) -> Result<(), AllocError> {
+    out.extend_from_slice(print_exact(alloc, x)?.as_bytes())
 }
 
-// Returns the exact text of the value of a numeral, or the text of a fault.
-fn numeral_text(alloc: Global, bytes: &[u8]) -> Result<Text, AllocError> {
-    match read_numeral(bytes) {
-        Ok(numeral) => fraction_text(alloc, numeral.value()),
-        Err(NumeralFault::NotNumeral) => Text::from_bytes(alloc, b"not a numeral"),
-        Err(NumeralFault::TooLong) => Text::from_bytes(alloc, b"too long"),
-    }
+// Returns `true` or `false`.
+fn truth_text(holds: bool) -> &'static [u8] {
+    if holds { b"true" } else { b"false" }
 }
 
 // Returns how the first of two fractions compares to the second.

@@ -1,14 +1,14 @@
 //! The report on a definition file.
 
-ghost use Rattle.std.specs.Prelude.{◌≡◌, true};
+ghost use Rattle.std.specs.Prelude.{◌≡◌, ◌≤◌, length, true};
 ghost use Rattle.def_lines.specs.Kinds.{kind_of_line};
 ghost use Rattle.def_entry.specs.EntryReading.{has_entry};
 
 use crate::entry_text::put_entry;
-use def_entry::read_entry;
-use def_lines::{LineKind, classify, split_lines};
+use def_entry::{EntryFault, read_entry};
+use def_lines::{LineKind, Lines, classify, split_lines};
 use std::alloc::{AllocError, Global};
-use test_lines::{entry_refusal, put_count, put_line};
+use test_lines::{entry_refusal, put_count};
 use units_io::LONGEST_FILE;
 
 // The report on the lines so far: the rows, and how many there are of each kind.
@@ -30,39 +30,63 @@ pub(crate) fn report_to(alloc: Global, bytes: &[u8]) -> Result<Vec<u8>, AllocErr
         entries: 0,
         refusals: 0,
     };
-    let lines = split_lines(alloc, bytes)?;
-    for place in 0..lines.len() {
-        let Some(line) = lines.get(place) else {
-            break;
-        };
-        let text = line.text.as_bytes();
-        match classify(text) {
-            LineKind::Definition | LineKind::UnitList => report.add(alloc, line.number, text)?,
-            _ => {}
-        }
-    }
-    put_count(alloc, &mut report.rows, report.entries, b" lines, ")?;
-    put_count(alloc, &mut report.rows, report.refusals, b" refused\n")?;
+    report.add_file(alloc, bytes)?;
     Ok(report.rows)
 }
 
 impl Report {
+    // Adds the rows of a file and their numbers.
+    fn add_file(&mut self, alloc: Global, bytes: &[u8]) -> Result<(), AllocError>
+        requires { length bytes.now ≤ 16777216 }
+    {
+        self.add_lines(alloc, &split_lines(alloc, bytes)?)?;
+        put_count(alloc, &mut self.rows, self.entries, b" lines, ")?;
+        put_count(alloc, &mut self.rows, self.refusals, b" refused\n")
+    }
+
+    // Adds the rows of lines.
+    fn add_lines(&mut self, alloc: Global, lines: &Lines) -> Result<(), AllocError> {
+        for place in 0..lines.len() {
+            let Some(line) = lines.get(place) else {
+                break;
+            };
+            self.add_line(alloc, line.number, line.text.as_bytes())?;
+        }
+        Ok(())
+    }
+
+    // Adds the row of a line if it is a definition or a list.
+    fn add_line(&mut self, alloc: Global, number: u32, line: &[u8]) -> Result<(), AllocError> {
+        match classify(line) {
+            LineKind::Definition | LineKind::UnitList => self.add_row(alloc, number, line),
+            _ => Ok(()),
+        }
+    }
+
     // Adds the row of a definition or a list: its line number, and its entry or the reason why it is refused.
-    fn add(&mut self, alloc: Global, number: u32, line: &[u8]) -> Result<(), AllocError>
+    fn add_row(&mut self, alloc: Global, number: u32, line: &[u8]) -> Result<(), AllocError>
         requires { has_entry (kind_of_line line.now) ≡ true }
     {
         self.entries = self.entries.saturating_add(1);
         put_count(alloc, &mut self.rows, number as usize, b": ")?;
+        self.add_entry(alloc, line)?;
+        self.rows.extend_from_slice(b"\n")
+    }
+
+    // Adds the entry of a line, or the reason why it is refused.
+    fn add_entry(&mut self, alloc: Global, line: &[u8]) -> Result<(), AllocError>
+        requires { has_entry (kind_of_line line.now) ≡ true }
+    {
         match read_entry(alloc, line) {
-            Ok((key, what)) => {
-                put_entry(alloc, &mut self.rows, &key, &what, line)?;
-                put_line(&mut self.rows, b"")
-            }
-            Err(fault) => {
-                self.refusals = self.refusals.saturating_add(1);
-                self.rows.extend_from_slice(b"refused: ")?;
-                put_line(&mut self.rows, &entry_refusal(alloc, fault)?)
-            }
+            Ok((key, what)) => put_entry(alloc, &mut self.rows, &key, &what, line),
+            Err(fault) => self.add_refusal(alloc, fault),
         }
+    }
+
+    // Adds the reason why a line is refused.
+    fn add_refusal(&mut self, alloc: Global, fault: EntryFault) -> Result<(), AllocError> {
+        self.refusals = self.refusals.saturating_add(1);
+        self.rows.extend_from_slice(b"refused: ")?;
+        self.rows.extend_from_slice(&entry_refusal(alloc, fault)?)
     }
 }

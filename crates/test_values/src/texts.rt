@@ -1,64 +1,67 @@
 //! The answers to calls on expressions and names.
 
-use crate::lookup::lookup_answer;
+use crate::lookup::put_lookup;
 use crate::notation::{put_tree, put_word};
-use expr_tree::{Tree, WordKind, Words, is_name, is_refused, parse_expr, words};
+use crate::text_calls::{TextCall, TreeCall, text_call};
+use expr_tree::{Tree, WordKind, is_name, is_refused, parse_expr, words};
 use std::alloc::{AllocError, Global};
 use test_lines::{CallFault, parse_refusal, split_at_space};
-use units_io::Text;
 
-// Returns the answer to a call with its text. `plain` answers with the tree of the text without a binder, `with` with
-// the tree under the binder that precedes the text, `copy` with the tree of a copy, `parse` with a confirmation that
-// there is a tree, and `words` with the words of the tree; each of these answers with the fault if there is one. `name`
-// answers whether the text is a name, and `find` which keys a word leads to, by its position, in a table.
-pub(crate) fn text_answer(alloc: Global, line: &[u8]) -> Result<Text, CallFault> {
+// Appends the answer to a call with its text. If the text of a call on a tree has no tree, the answer is its fault.
+pub(crate) fn put_text_answer(
+    alloc: Global,
+    line: &[u8],
+    out: &mut Vec<u8>,
+) -> Result<(), CallFault> {
     let (word, text) = split_at_space(line);
-    match word {
-        b"plain" | b"copy" | b"parse" | b"words" => Ok(tree_text(alloc, word, text, None)?),
-        b"with" => {
-            let (binder, text) = split_at_space(text);
-            Ok(tree_text(alloc, word, text, Some(binder))?)
-        }
-        b"find" => lookup_answer(alloc, text),
-        b"name" => Ok(Text::from_bytes(alloc, name_text(text))?),
-        _ => Err(CallFault::BadCall),
+    match text_call(word) {
+        Some(TextCall::Tree(call)) => Ok(put_tree_answer(alloc, call, text, None, out)?),
+        Some(TextCall::Bound) => Ok(put_bound(alloc, text, out)?),
+        Some(TextCall::Find) => put_lookup(alloc, text, out),
+        Some(TextCall::Name) => Ok(out.extend_from_slice(name_text(text))?),
+        None => Err(CallFault::BadCall),
     }
 }
 
-// Parses a text and returns the answer about its tree, or its fault.
-fn tree_text(
+// Appends the tree of a text under the binder that precedes it.
+fn put_bound(alloc: Global, text: &[u8], out: &mut Vec<u8>) -> Result<(), AllocError> {
+    let (binder, text) = split_at_space(text);
+    put_tree_answer(alloc, TreeCall::Notation, text, Some(binder), out)
+}
+
+// Parses a text and appends the answer about its tree, or its fault.
+fn put_tree_answer(
     alloc: Global,
-    word: &[u8],
+    call: TreeCall,
     text: &[u8],
     binder: Option<&[u8]>,
-) -> Result<Text, AllocError> {
-    let answer = match parse_expr(alloc, text, binder) {
-        Ok(tree) => tree_answer(alloc, word, tree)?,
-        Err(fault) => parse_refusal(alloc, fault)?,
-    };
-    Ok(Text::from(answer))
-}
-
-// Returns the answer about a tree.
-fn tree_answer(alloc: Global, word: &[u8], tree: Tree) -> Result<Vec<u8>, AllocError> {
-    let mut out = Vec::new(alloc);
-    match word {
-        b"parse" => out.extend_from_slice(b"tree")?,
-        b"words" => put_uses(&mut out, &words(alloc, &tree)?)?,
-        b"copy" => {
-            let copy = tree.copy(alloc)?;
-            drop(tree);
-            put_tree(alloc, &mut out, &copy)?;
-        }
-        _ => put_tree(alloc, &mut out, &tree)?,
+    out: &mut Vec<u8>,
+) -> Result<(), AllocError> {
+    match parse_expr(alloc, text, binder) {
+        Ok(tree) => put_answer_about(alloc, call, &tree, out),
+        Err(fault) => out.extend_from_slice(&parse_refusal(alloc, fault)?),
     }
-    Ok(out)
 }
 
-// Appends words, each with its kind.
-fn put_uses(out: &mut Vec<u8>, uses: &Words<'_>) -> Result<(), AllocError> {
+// Appends the answer about a tree.
+fn put_answer_about(
+    alloc: Global,
+    call: TreeCall,
+    tree: &Tree,
+    out: &mut Vec<u8>,
+) -> Result<(), AllocError> {
+    match call {
+        TreeCall::Notation => put_tree(alloc, out, tree),
+        TreeCall::Copy => put_tree(alloc, out, &tree.copy(alloc)?),
+        TreeCall::Presence => out.extend_from_slice(b"tree"),
+        TreeCall::Words => put_words(alloc, tree, out),
+    }
+}
+
+// Appends the words of a tree, each with its kind.
+fn put_words(alloc: Global, tree: &Tree, out: &mut Vec<u8>) -> Result<(), AllocError> {
     out.extend_from_slice(b"words")?;
-    for word in uses.as_slice() {
+    for word in words(alloc, tree)?.as_slice() {
         out.extend_from_slice(kind_text(word.kind()))?;
         put_word(out, word.text())?;
     }

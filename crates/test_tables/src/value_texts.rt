@@ -1,0 +1,90 @@
+//! The answers to queries of a live table.
+
+ghost use Rattle.std.specs.Prelude.{◌≡◌, true};
+ghost use Rattle.def_entry.specs.Keys as key_spec;
+ghost use Rattle.def_entry.specs.declared.key.Kind.TheVariants as kind;
+ghost use Rattle.def_entry.specs.Tables.{is_entry_present};
+ghost use Rattle.deck.specs.Tables.{table_of_deck};
+
+use def_entry::Kind;
+use expr_tree::{Tree, parse_expr};
+use fault_texts::{put_name_fault, put_value_fault};
+use live_table::{LiveTable, QueryFault};
+use quantity::{Quantity, Style};
+use std::alloc::{AllocError, Global};
+use std::sync::ledger::Ledger;
+use test_lines::{parse_refusal, put_count, split_at_space};
+use units_io::Steps;
+
+// Appends the value of an expression.
+pub(crate) fn put_value<L: Ledger>(
+    alloc: Global,
+    live: &mut LiveTable,
+    text: &[u8],
+    steps: &mut Steps<L>,
+    out: &mut Vec<u8>,
+) -> Result<(), AllocError> {
+    match parse_expr(alloc, text, None) {
+        Ok(tree) => put_outcome(alloc, &live.value(alloc, &tree, steps), out),
+        Err(fault) => out.extend_from_slice(&parse_refusal(alloc, fault)?),
+    }
+}
+
+// Appends the inverse of a function at the value of an expression.
+pub(crate) fn put_inverse<L: Ledger>(
+    alloc: Global,
+    live: &mut LiveTable,
+    text: &[u8],
+    steps: &mut Steps<L>,
+    out: &mut Vec<u8>,
+) -> Result<(), AllocError> {
+    let (name, text) = split_at_space(text);
+    if live.deck().entry(Kind::Func, name).is_none() {
+        return out.extend_from_slice(b"no function");
+    }
+    match parse_expr(alloc, text, None) {
+        Ok(tree) => put_outcome(alloc, &inverse_at(alloc, live, name, &tree, steps), out),
+        Err(fault) => out.extend_from_slice(&parse_refusal(alloc, fault)?),
+    }
+}
+
+// Returns the inverse of a function at the value of a tree.
+fn inverse_at<L: Ledger>(
+    alloc: Global,
+    live: &mut LiveTable,
+    name: &[u8],
+    tree: &Tree,
+    steps: &mut Steps<L>,
+) -> Result<Quantity, QueryFault>
+    requires { is_entry_present (table_of_deck live.old.deck) (key_spec.key kind.Func name.now) ≡ true }
+{
+    let value = live.value(alloc, tree, steps)?;
+    live.unapply(alloc, name, &value, steps)
+}
+
+// Appends a quantity, or the fault of a query.
+fn put_outcome(
+    alloc: Global,
+    outcome: &Result<Quantity, QueryFault>,
+    out: &mut Vec<u8>,
+) -> Result<(), AllocError> {
+    match outcome {
+        Ok(value) => value.put(alloc, out, Style::Exact),
+        Err(QueryFault::Name(fault)) => put_name_fault(out, fault),
+        Err(QueryFault::Value(fault)) => put_value_fault(alloc, out, fault, Style::Exact),
+        Err(QueryFault::OutOfMemory) => Err(AllocError),
+    }
+}
+
+// Appends the number of names that are settled, the number that have an entry, and the number that were settled since
+// the table was created.
+pub(crate) fn put_counts(
+    alloc: Global,
+    live: &LiveTable,
+    out: &mut Vec<u8>,
+) -> Result<(), AllocError> {
+    let counts = live.counts();
+    put_count(alloc, out, counts.settled, b" settled, ")?;
+    put_count(alloc, out, counts.names, b" names, ")?;
+    put_count(alloc, out, counts.reductions as usize, b" reductions")
+}
