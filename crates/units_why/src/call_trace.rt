@@ -2,12 +2,13 @@
 
 ghost use Rattle.reply.specs.Options.{AreReplyOptionsPrintable};
 
-use crate::callee::{Callee, FunctionParts, TableParts, callee_of};
+use crate::callee::{Callee, callee_of, span_at, unit_at};
 use crate::evaluator::Evaluator;
 use crate::interval::{End, EndTest, Interval, end_test};
 use crate::segment::{Segment, segment_at, segment_back};
 use crate::substitution::value_at;
 use crate::values::value_text;
+use def_entry::{FunctionDef, What};
 use expr_tree::Tree;
 use live_table::QueryFault;
 use quantity::Quantity;
@@ -17,7 +18,7 @@ use std::sync::ledger::Ledger;
 use units_io::Text;
 
 /// The direction in which a function is called.
-#[derive(Clone, Copy, Debug, PartialEq, Eq, Drop)]
+#[derive(Clone, Copy, Drop)]
 pub(crate) enum Branch {
     /// By its expression or its table.
     Forward,
@@ -58,23 +59,38 @@ pub(crate) fn trace_call<L: Ledger>(
     let Some(value) = evaluator.value_if_any(operand)? else {
         return Ok(None);
     };
+    match callee_of(evaluator.alloc, evaluator.deck(), word.as_bytes())? {
+        Some(callee) => Ok(Some(trace_at(evaluator, options, branch, &callee, &value)?)),
+        None => Ok(None),
+    }
+}
+
+// Returns how a function is evaluated at a value.
+fn trace_at<L: Ledger>(
+    evaluator: &mut Evaluator<L>,
+    options: &Options,
+    branch: Branch,
+    callee: &Callee,
+    value: &Quantity,
+) -> Result<CallTrace, AllocError>
+    requires { AreReplyOptionsPrintable options.now }
+{
     let alloc = evaluator.alloc;
     let mut trace = CallTrace {
         branch,
-        operand: value_text(alloc, options, &value)?,
+        operand: value_text(alloc, options, value)?,
         tests: Vec::new(alloc),
         segment: None,
     };
-    match callee_of(alloc, evaluator.deck(), word.as_bytes())? {
-        Some(Callee::Function(parts)) => {
-            trace.put_tests(evaluator, options, &parts, &value)?;
+    match &callee.what {
+        What::Function(function) => trace.put_tests(evaluator, options, function, value)?,
+        What::Table(table) => {
+            let text = callee.text.as_bytes();
+            trace.segment = segment_of(evaluator, &table.unit, text, branch, value)?;
         }
-        Some(Callee::Table(parts)) => {
-            trace.segment = segment_of(evaluator, &parts, branch, &value)?;
-        }
-        None => return Ok(None),
+        _ => {}
     }
-    Ok(Some(trace))
+    Ok(trace)
 }
 
 // Returns whether a name that an expression reaches is unknown, refused or on a cycle.
@@ -95,28 +111,25 @@ impl CallTrace {
         &mut self,
         evaluator: &mut Evaluator<L>,
         options: &Options,
-        parts: &FunctionParts,
+        function: &FunctionDef,
         value: &Quantity,
     ) -> Result<(), AllocError>
         requires { AreReplyOptionsPrintable options.now }
     {
         let ((first, body), last) = match self.branch {
-            Branch::Forward => ((End::Domain, Some(&parts.forward)), End::Range),
-            Branch::Inverse => ((End::Range, parts.inverse.as_ref()), End::Domain),
+            Branch::Forward => ((End::Domain, Some(&function.forward)), End::Range),
+            Branch::Inverse => ((End::Range, function.inverse.as_ref()), End::Domain),
         };
-        if !self.put_test(evaluator, options, parts, first, value)? {
+        if !self.put_test(evaluator, options, function, first, value)? {
             return Ok(());
         }
         let Some(body) = body else {
             return Ok(());
         };
-        match value_at(evaluator, body, value)? {
-            Some(result) => {
-                let _ = self.put_test(evaluator, options, parts, last, &result)?;
-                Ok(())
-            }
-            None => Ok(()),
+        if let Some(result) = value_at(evaluator, body, value)? {
+            self.put_test(evaluator, options, function, last, &result)?;
         }
+        Ok(())
     }
 
     // Appends the test of one end, if the function has an interval there. Returns whether the evaluation continues.
@@ -124,26 +137,27 @@ impl CallTrace {
         &mut self,
         evaluator: &mut Evaluator<L>,
         options: &Options,
-        parts: &FunctionParts,
+        function: &FunctionDef,
         end: End,
         value: &Quantity,
     ) -> Result<bool, AllocError>
         requires { AreReplyOptionsPrintable options.now }
     {
-        let unit = match parts.unit(end) {
-            Some(tree) => evaluator.value_if_any(tree)?,
-            None => None,
-        };
-        if let Some(unit) = &unit {
-            if !value.conforms(unit) {
-                return Ok(false);
-            }
+        let unit = unit_value(evaluator, unit_at(function, end))?;
+        if !conforms_to(value, unit.as_ref()) {
+            return Ok(false);
         }
-        let Some(span) = parts.span(end) else {
+        let Some(span) = span_at(function, end) else {
             return Ok(true);
         };
         let interval = Interval { end, span };
-        let Some(test) = end_test(evaluator.alloc, options, interval, unit.as_ref(), value)? else {
+        let test = end_test(evaluator.alloc, options, interval, unit.as_ref(), value)?;
+        self.push_test(test)
+    }
+
+    // Appends a test if there is one. Returns whether there is one and its number is inside.
+    fn push_test(&mut self, test: Option<EndTest>) -> Result<bool, AllocError> {
+        let Some(test) = test else {
             return Ok(false);
         };
         let is_inside = test.is_inside;
@@ -152,22 +166,51 @@ impl CallTrace {
     }
 }
 
-// Returns the segment of a table that contains the value of a call.
+// Returns the value of a unit, if there is a unit and it has a value.
+fn unit_value<L: Ledger>(
+    evaluator: &mut Evaluator<L>,
+    unit: Option<&Tree>,
+) -> Result<Option<Quantity>, AllocError> {
+    match unit {
+        Some(unit) => evaluator.value_if_any(unit),
+        None => Ok(None),
+    }
+}
+
+// Returns whether a value conforms to a unit, or there is no unit.
+fn conforms_to(value: &Quantity, unit: Option<&Quantity>) -> bool {
+    match unit {
+        Some(unit) => value.conforms(unit),
+        None => true,
+    }
+}
+
+// Returns the segment of a table, with its unit and its text, that contains the value of a call.
 fn segment_of<L: Ledger>(
     evaluator: &mut Evaluator<L>,
-    parts: &TableParts,
+    unit: &Tree,
+    text: &[u8],
     branch: Branch,
     value: &Quantity,
 ) -> Result<Option<Segment>, AllocError> {
-    let alloc = evaluator.alloc;
-    if let Branch::Forward = branch {
-        return segment_at(alloc, parts.text.as_bytes(), &value.value());
+    match branch {
+        Branch::Forward => segment_at(evaluator.alloc, text, &value.value()),
+        Branch::Inverse => segment_of_result(evaluator, unit, text, value),
     }
-    let Some(unit) = evaluator.value_if_any(&parts.unit)? else {
+}
+
+// Returns the segment of a table whose results, numbers in the unit, contain a value.
+fn segment_of_result<L: Ledger>(
+    evaluator: &mut Evaluator<L>,
+    unit: &Tree,
+    text: &[u8],
+    value: &Quantity,
+) -> Result<Option<Segment>, AllocError> {
+    let Some(unit) = evaluator.value_if_any(unit)? else {
         return Ok(None);
     };
     match value.value().div(&unit.value()) {
-        Ok(y) if value.conforms(&unit) => segment_back(alloc, parts.text.as_bytes(), &y),
+        Ok(y) if value.conforms(&unit) => segment_back(evaluator.alloc, text, &y),
         _ => Ok(None),
     }
 }

@@ -2,18 +2,16 @@
 
 ghost use Rattle.reply.specs.Options.{AreReplyOptionsPrintable};
 
-use crate::entries::key_at;
 use crate::evaluator::Evaluator;
-use crate::finding::{Finding, LineFinding, Severity, key_text};
+use crate::finding::{Finding, LineFinding, Severity, push_finding};
 use crate::mark::Mark;
-use crate::reading::{put_reading, reading_tree};
-use crate::values::value_text;
+use crate::reading::{put_reading, reading_value};
+use crate::writer::Writer;
 use deck::Deck;
-use def_entry::{Key, Kind};
-use expr_tree::Tree;
+use def_entry::Kind;
 use quantity::Quantity;
 use reply::Options;
-use std::alloc::{AllocError, Global};
+use std::alloc::AllocError;
 use std::sync::ledger::Ledger;
 use units_io::Text;
 use word_readings::{Reading, word_readings};
@@ -28,12 +26,10 @@ pub(crate) fn put_captures<L: Ledger>(
     requires { AreReplyOptionsPrintable options.now }
 {
     for place in keys {
-        if let Some(key) = unit_at(evaluator.alloc, evaluator.deck(), *place)? {
-            if let Some(finding) = capture_finding(evaluator, options, key)? {
-                findings.push(LineFinding {
-                    place: *place,
-                    finding,
-                })?;
+        if let Some(unit) = unit_at(evaluator.deck(), *place) {
+            let unit = Text::from_bytes(evaluator.alloc, unit)?;
+            if let Some(finding) = capture_finding(evaluator, options, &unit)? {
+                push_finding(findings, *place, finding)?;
             }
         }
     }
@@ -41,51 +37,57 @@ pub(crate) fn put_captures<L: Ledger>(
 }
 
 // Returns the unit that the line at a place defines.
-fn unit_at(alloc: Global, deck: &Deck, place: usize) -> Result<Option<Key>, AllocError> {
-    match key_at(alloc, deck, place)? {
-        Some(key) => match key.kind {
-            Kind::Unit => Ok(Some(key)),
-            Kind::Prefix | Kind::Func | Kind::List => Ok(None),
-        },
-        None => Ok(None),
+fn unit_at(deck: &Deck, place: usize) -> Option<&[u8]> {
+    let key = deck.key_at(place)?;
+    match key.kind {
+        Kind::Unit => Some(key.name),
+        Kind::Prefix | Kind::Func | Kind::List => None,
     }
 }
 
 fn capture_finding<L: Ledger>(
     evaluator: &mut Evaluator<L>,
     options: &Options,
-    key: Key,
+    unit: &Text,
 ) -> Result<Option<Finding>, AllocError>
     requires { AreReplyOptionsPrintable options.now }
 {
-    let alloc = evaluator.alloc;
-    let readings = word_readings(alloc, evaluator.deck(), key.name.as_bytes())?;
+    let readings = word_readings(evaluator.alloc, evaluator.deck(), unit.as_bytes())?;
     let Some(hidden) = first_with_unit(readings.as_slice()) else {
         return Ok(None);
     };
-    let Some(tree) = reading_tree(alloc, evaluator.deck(), hidden)? else {
+    let Some(value) = hidden_value(evaluator, unit, hidden)? else {
         return Ok(None);
     };
-    let word = Tree::Word(key.name.copy(alloc)?);
-    let Some(own) = evaluator.value_if_any(&word)? else {
-        return Ok(None);
-    };
-    let Some(other) = evaluator.value_if_any(&tree)? else {
-        return Ok(None);
-    };
-    if is_same(&own, &other) {
-        return Ok(None);
-    }
-    let mut message = Vec::from_slice(alloc, b"hides ")?;
-    put_reading(&mut message, hidden, key.name.as_bytes().len())?;
-    message.extend_from_slice(b" = ".as_slice())?;
-    message.extend_from_slice(value_text(alloc, options, &other)?.as_bytes())?;
+    let mut message = Writer::new(evaluator.alloc);
+    message.put(b"hides ");
+    put_reading(&mut message, hidden, unit.as_bytes().len());
+    message.put(b" = ");
+    message.put_value(options, &value);
     Ok(Some(Finding {
         severity: Severity::Information,
-        key: key_text(alloc, Some(key))?,
-        message: Text::from(message),
+        message: message.into_text()?,
         mark: Mark::Name,
     }))
+}
+
+// Returns the value of a reading that a unit hides, if the unit has a different value.
+fn hidden_value<L: Ledger>(
+    evaluator: &mut Evaluator<L>,
+    unit: &Text,
+    hidden: &Reading,
+) -> Result<Option<Quantity>, AllocError> {
+    let Some(own) = evaluator.word_value(unit)? else {
+        return Ok(None);
+    };
+    let Some(other) = reading_value(evaluator, hidden)? else {
+        return Ok(None);
+    };
+    Ok(if is_same(&own, &other) {
+        None
+    } else {
+        Some(other)
+    })
 }
 
 // Returns the first reading that is not a prefix alone.

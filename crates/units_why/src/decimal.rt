@@ -1,6 +1,6 @@
 //! Numbers in decimal.
 
-use std::alloc::AllocError;
+use crate::writer::Writer;
 
 // The count of digits of the largest number.
 const MOST_DIGITS: usize = 20;
@@ -9,20 +9,14 @@ const MOST_DIGITS: usize = 20;
 const MOST_BYTES: usize = 23;
 
 /// Appends a number.
-pub(crate) fn put_number(out: &mut Vec<u8>, number: usize) -> Result<(), AllocError> {
+pub(crate) fn put_number(out: &mut Writer, number: usize) {
     let mut text = [b'0'; MOST_BYTES];
     let first = write_digits(&mut text, number);
-    let digits = text.get(first..MOST_DIGITS + 1).unwrap_or(b"");
-    Ok(out.extend_from_slice(digits)?)
+    out.put(text.get(first..MOST_DIGITS + 1).unwrap_or(b""));
 }
 
 /// Appends a byte, a number and two more bytes. One longer text is appended faster than three short ones.
-pub(crate) fn put_number_between(
-    out: &mut Vec<u8>,
-    before: u8,
-    number: usize,
-    after: [u8; 2],
-) -> Result<(), AllocError> {
+pub(crate) fn put_number_between(out: &mut Writer, before: u8, number: usize, after: [u8; 2]) {
     let mut text = [b'0'; MOST_BYTES];
     let start = write_digits(&mut text, number).saturating_sub(1);
     if start < MOST_BYTES {
@@ -30,7 +24,7 @@ pub(crate) fn put_number_between(
     }
     text[MOST_DIGITS + 1] = after[0];
     text[MOST_DIGITS + 2] = after[1];
-    Ok(out.extend_from_slice(text.get(start..).unwrap_or(b""))?)
+    out.put(text.get(start..).unwrap_or(b""));
 }
 
 // Writes a number so that two bytes are left after it, and returns the place of its first digit.

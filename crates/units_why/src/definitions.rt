@@ -29,7 +29,7 @@ pub(crate) fn load<F: Files, L: Ledger>(
     steps: Steps<L>,
 ) -> Result<Definitions<L>, Stop> {
     let settings = settings_of(alloc, request, vars)?;
-    let (deck, names) = match &request.file {
+    let LoadedDeck { deck, names } = match &request.file {
         Some(name) => load_file(alloc, files, name.as_bytes(), &request.inquiry, settings)?,
         None => load_built_in(alloc, settings)?,
     };
@@ -44,6 +44,13 @@ pub(crate) fn load<F: Files, L: Ledger>(
     })
 }
 
+// A deck, and the files of its lines.
+#[derive(Drop)]
+struct LoadedDeck {
+    deck: Deck,
+    names: Option<LineNames>,
+}
+
 // Returns the requested locale, or `en_US`, and the variables of the environment.
 fn settings_of(alloc: Global, request: &Request, vars: &Vars) -> Result<Settings, AllocError> {
     let locale = match &request.locale {
@@ -54,10 +61,10 @@ fn settings_of(alloc: Global, request: &Request, vars: &Vars) -> Result<Settings
     Ok(Settings { locale, vars })
 }
 
-fn load_built_in(alloc: Global, settings: Settings) -> Result<(Deck, Option<LineNames>), Stop> {
+fn load_built_in(alloc: Global, settings: Settings) -> Result<LoadedDeck, Stop> {
     let deck = Deck::from_text(alloc, built_in(), BUILT_IN_NAME, settings)?;
-    let name = Text::from_bytes(alloc, BUILT_IN_NAME)?;
-    Ok((deck, Some(LineNames::One(name))))
+    let names = Some(LineNames::One(Text::from_bytes(alloc, BUILT_IN_NAME)?));
+    Ok(LoadedDeck { deck, names })
 }
 
 fn load_file<F: Files>(
@@ -66,11 +73,22 @@ fn load_file<F: Files>(
     name: &[u8],
     inquiry: &Inquiry,
     settings: Settings,
-) -> Result<(Deck, Option<LineNames>), Stop> {
+) -> Result<LoadedDeck, Stop> {
     let deck = Deck::load(alloc, files, name, settings)?;
-    let names = match inquiry {
-        Inquiry::Value(_, _) => line_names(alloc, files, name, &deck)?,
-        Inquiry::Lint(_) => line_names_to_read(alloc, files, name, &deck)?,
-    };
-    Ok((deck, names))
+    let names = names_of(alloc, files, name, inquiry, &deck)?;
+    Ok(LoadedDeck { deck, names })
+}
+
+// Returns the files of the lines of a deck. A run for findings reads the files again.
+fn names_of<F: Files>(
+    alloc: Global,
+    files: &mut F,
+    name: &[u8],
+    inquiry: &Inquiry,
+    deck: &Deck,
+) -> Result<Option<LineNames>, AllocError> {
+    match inquiry {
+        Inquiry::Value(_, _) => line_names(alloc, files, name, deck),
+        Inquiry::Lint(_) => line_names_to_read(alloc, files, name, deck),
+    }
 }

@@ -1,7 +1,7 @@
 //! The entries of a deck, by the places of their lines.
 
 use deck::Deck;
-use def_entry::{FunctionDef, Key, What};
+use def_entry::{FunctionDef, Key, What, key_text};
 use expr_tree::{Tree, WordKind, WordUse, Words, put_words};
 use std::alloc::{AllocError, Global};
 use units_io::Text;
@@ -24,6 +24,14 @@ pub(crate) fn key_at(alloc: Global, deck: &Deck, place: usize) -> Result<Option<
     }
 }
 
+/// Returns the text of the key that the line at a place defines, or an empty text if it defines none.
+pub(crate) fn key_text_at(alloc: Global, deck: &Deck, place: usize) -> Result<Text, AllocError> {
+    match key_at(alloc, deck, place)? {
+        Some(key) => key_text(alloc, &key),
+        None => Ok(Text::from(Vec::new(alloc))),
+    }
+}
+
 /// Returns the words of all expressions of an entry. For an alias, this is the name of its target as a call of an
 /// inverse, because only a function can be called so.
 pub(crate) fn entry_words<'a>(alloc: Global, what: &'a What) -> Result<Words<'a>, AllocError> {
@@ -38,9 +46,7 @@ pub(crate) fn entry_words<'a>(alloc: Global, what: &'a What) -> Result<Words<'a>
         }
         What::Table(table) => put_words(alloc, &mut words, &table.unit)?,
         What::ListOf(parts) => {
-            for part in parts.as_slice() {
-                put_words(alloc, &mut words, part)?;
-            }
+            put_words_of_all(alloc, &mut words, parts.as_slice())?;
         }
     }
     Ok(words)
@@ -66,4 +72,15 @@ fn put_words_if<'a>(
         Some(tree) => put_words(alloc, words, tree),
         None => Ok(()),
     }
+}
+
+fn put_words_of_all<'a>(
+    alloc: Global,
+    words: &mut Words<'a>,
+    trees: &'a [Tree],
+) -> Result<(), AllocError> {
+    for tree in trees {
+        put_words(alloc, words, tree)?;
+    }
+    Ok(())
 }

@@ -44,6 +44,12 @@ impl<L: Ledger> Evaluator<L> {
         self.table.value_if_any(self.alloc, tree, &mut self.steps)
     }
 
+    /// Returns the value of a word, or `None` if it has a fault. Fails only if memory runs out.
+    pub(crate) fn word_value(&mut self, word: &Text) -> Result<Option<Quantity>, AllocError> {
+        let word = Tree::Word(word.copy(self.alloc)?);
+        self.value_if_any(&word)
+    }
+
     /// Returns the step of an expression without a value, if there is one. Fails only if memory runs out.
     pub(crate) fn failed_step(&mut self, tree: &Tree) -> Result<Option<FailedStep>, AllocError> {
         failed_step(self.alloc, &mut self.table, tree, &mut self.steps)

@@ -4,6 +4,7 @@ ghost use Rattle.reply.specs.Options.{AreReplyOptionsPrintable};
 
 use crate::json::{put_name, put_string};
 use crate::values::value_text;
+use crate::writer::Writer;
 use expr_tree::RootKind;
 use quantity::Quantity;
 use reply::Options;
@@ -24,11 +25,7 @@ pub(crate) struct FaultStep {
 
 impl FaultStep {
     /// Formats a step, with its values in the format that the options select.
-    pub(crate) fn of(
-        alloc: Global,
-        options: &Options,
-        step: &FailedStep,
-    ) -> Result<FaultStep, AllocError>
+    fn of(alloc: Global, options: &Options, step: &FailedStep) -> Result<FaultStep, AllocError>
         requires { AreReplyOptionsPrintable options.now }
     {
         match step {
@@ -44,38 +41,50 @@ impl FaultStep {
         }
     }
 
-    /// Appends the step as an expression.
-    pub(crate) fn put_text(&self, out: &mut Vec<u8>) -> Result<(), AllocError> {
-        if self.is_call {
-            out.extend_from_slice(self.operator.as_bytes())?;
-            out.push(b'(')?;
-            out.extend_from_slice(self.left.as_bytes())?;
-            return Ok(out.push(b')')?);
+    /// Formats a step if there is one.
+    pub(crate) fn of_if(
+        alloc: Global,
+        options: &Options,
+        step: Option<FailedStep>,
+    ) -> Result<Option<FaultStep>, AllocError>
+        requires { AreReplyOptionsPrintable options.now }
+    {
+        match step {
+            Some(step) => Ok(Some(FaultStep::of(alloc, options, &step)?)),
+            None => Ok(None),
         }
-        put_operand(out, &self.left)?;
-        out.push(b' ')?;
-        out.extend_from_slice(self.operator.as_bytes())?;
-        out.push(b' ')?;
-        match &self.right {
-            Some(right) => put_operand(out, right),
-            None => Ok(()),
+    }
+
+    /// Appends the step as an expression.
+    pub(crate) fn put_text(&self, out: &mut Writer) {
+        let operator = self.operator.as_bytes();
+        let left = self.left.as_bytes();
+        if self.is_call {
+            out.put(operator);
+            return put_group(out, left);
+        }
+        put_operand(out, left);
+        out.put_byte(b' ');
+        out.put(operator);
+        out.put_byte(b' ');
+        if let Some(right) = &self.right {
+            put_operand(out, right.as_bytes());
         }
     }
 
     /// Appends a comma and the member `step`.
-    pub(crate) fn put_member(&self, out: &mut Vec<u8>) -> Result<(), AllocError> {
-        put_name(out, b"step")?;
-        out.extend_from_slice(b"{\"operator\":".as_slice())?;
-        put_string(out, self.operator.as_bytes())?;
-        put_name(out, b"operands")?;
-        out.push(b'[')?;
-        put_string(out, self.left.as_bytes())?;
+    pub(crate) fn put_member(&self, out: &mut Writer) {
+        put_name(out, b"step");
+        out.put(b"{\"operator\":");
+        put_string(out, self.operator.as_bytes());
+        put_name(out, b"operands");
+        out.put_byte(b'[');
+        put_string(out, self.left.as_bytes());
         if let Some(right) = &self.right {
-            out.push(b',')?;
-            put_string(out, right.as_bytes())?;
+            out.put_byte(b',');
+            put_string(out, right.as_bytes());
         }
-        out.extend_from_slice(b"]}".as_slice())?;
-        Ok(())
+        out.put(b"]}");
     }
 }
 
@@ -105,10 +114,11 @@ fn unary(
 ) -> Result<FaultStep, AllocError>
     requires { AreReplyOptionsPrintable options.now }
 {
-    let mut operator = Vec::from_slice(alloc, mark)?;
-    operator.extend_from_slice(name)?;
+    let mut operator = Writer::new(alloc);
+    operator.put(mark);
+    operator.put(name);
     Ok(FaultStep {
-        operator: Text::from(operator),
+        operator: operator.into_text()?,
         is_call: true,
         left: value_text(alloc, options, value)?,
         right: None,
@@ -132,14 +142,18 @@ fn root_name(kind: RootKind) -> &'static [u8] {
 }
 
 // Appends an operand, in parentheses if it is more than a number.
-fn put_operand(out: &mut Vec<u8>, operand: &Text) -> Result<(), AllocError> {
-    let bytes = operand.as_bytes();
-    let is_number = bytes.iter().position(|byte| *byte == b' ').is_none();
+fn put_operand(out: &mut Writer, operand: &[u8]) {
+    let is_number = operand.iter().position(|byte| *byte == b' ').is_none();
     if is_number {
-        return Ok(out.extend_from_slice(bytes)?);
+        out.put(operand);
+    } else {
+        put_group(out, operand);
     }
-    out.push(b'(')?;
-    out.extend_from_slice(bytes)?;
-    out.push(b')')?;
-    Ok(())
+}
+
+// Appends a text in parentheses.
+fn put_group(out: &mut Writer, text: &[u8]) {
+    out.put_byte(b'(');
+    out.put(text);
+    out.put_byte(b')');
 }

@@ -1,14 +1,14 @@
 //! Findings in definitions, and their output formats.
 
-use crate::decimal::put_number;
+use crate::decimal::{put_number, put_number_between};
 use crate::json::{put_number_member, put_string, put_text_member};
 use crate::mark::Mark;
-use def_entry::Key;
-use std::alloc::{AllocError, Global};
+use crate::writer::Writer;
+use std::alloc::AllocError;
 use units_io::Text;
 
 /// The severity of a finding.
-#[derive(Clone, Copy, Debug, PartialEq, Eq, Drop)]
+#[derive(Clone, Copy, Drop)]
 pub(crate) enum Severity {
     /// A definition has no value, or a line has no effect.
     Error,
@@ -38,11 +38,10 @@ pub(crate) struct Spot<'a> {
     pub(crate) end: usize,
 }
 
-/// A finding about a key, or about a line that defines none.
+/// A finding about a line.
 #[derive(Drop)]
 pub(crate) struct Finding {
     pub(crate) severity: Severity,
-    pub(crate) key: Text,
     pub(crate) message: Text,
     /// The part of the line that is at fault.
     pub(crate) mark: Mark,
@@ -55,57 +54,60 @@ pub(crate) struct LineFinding {
     pub(crate) finding: Finding,
 }
 
-/// Returns the text of a key, or an empty text for `None`.
-pub(crate) fn key_text(alloc: Global, key: Option<Key>) -> Result<Text, AllocError> {
-    match key {
-        Some(key) => def_entry::key_text(alloc, &key),
-        None => Text::from_bytes(alloc, b""),
-    }
+/// A finding with its place, and the text of the key that its line defines, which is empty if there is none.
+#[derive(Clone, Copy)]
+pub(crate) struct FindingView<'a> {
+    pub(crate) spot: Option<Spot<'a>>,
+    pub(crate) key: &'a [u8],
+    pub(crate) finding: &'a Finding,
+}
+
+/// Appends a finding about the line at `place`.
+pub(crate) fn push_finding(
+    findings: &mut Vec<LineFinding>,
+    place: usize,
+    finding: Finding,
+) -> Result<(), AllocError> {
+    Ok(findings.push(LineFinding { place, finding })?)
 }
 
 /// Appends `FILE:LINE:COLUMN: KEY: message`, without the place or the key if there is none.
-pub(crate) fn put_finding_text(
-    out: &mut Vec<u8>,
-    spot: Option<Spot<'_>>,
-    finding: &Finding,
-) -> Result<(), AllocError> {
-    if let Some(spot) = spot {
-        out.extend_from_slice(spot.file)?;
-        out.push(b':')?;
-        put_number(out, spot.line)?;
-        out.push(b':')?;
-        put_number(out, spot.column)?;
-        out.extend_from_slice(b": ".as_slice())?;
+pub(crate) fn put_finding_text(out: &mut Writer, view: FindingView<'_>) {
+    if let Some(spot) = view.spot {
+        put_spot(out, spot);
     }
-    let key = finding.key.as_bytes();
-    if !key.is_empty() {
-        out.extend_from_slice(key)?;
-        out.extend_from_slice(b": ".as_slice())?;
+    if !view.key.is_empty() {
+        out.put(view.key);
+        out.put(b": ");
     }
-    out.extend_from_slice(finding.message.as_bytes())?;
-    out.push(b'\n')?;
-    Ok(())
+    out.put(view.finding.message.as_bytes());
+    out.put_byte(b'\n');
+}
+
+fn put_spot(out: &mut Writer, spot: Spot<'_>) {
+    out.put(spot.file);
+    out.put_byte(b':');
+    put_number(out, spot.line);
+    put_number_between(out, b':', spot.column, [b':', b' ']);
 }
 
 /// Appends a finding as a JSON object on a line of its own.
-pub(crate) fn put_finding_json(
-    out: &mut Vec<u8>,
-    spot: Option<Spot<'_>>,
-    finding: &Finding,
-) -> Result<(), AllocError> {
-    out.extend_from_slice(b"{\"severity\":".as_slice())?;
-    put_string(out, finding.severity.word())?;
-    if let Some(spot) = spot {
-        put_text_member(out, b"file", spot.file)?;
-        put_number_member(out, b"line", spot.line)?;
-        put_number_member(out, b"column", spot.column)?;
-        put_number_member(out, b"end", spot.end)?;
+pub(crate) fn put_finding_json(out: &mut Writer, view: FindingView<'_>) {
+    out.put(b"{\"severity\":");
+    put_string(out, view.finding.severity.word());
+    if let Some(spot) = view.spot {
+        put_spot_members(out, spot);
     }
-    let key = finding.key.as_bytes();
-    if !key.is_empty() {
-        put_text_member(out, b"key", key)?;
+    if !view.key.is_empty() {
+        put_text_member(out, b"key", view.key);
     }
-    put_text_member(out, b"message", finding.message.as_bytes())?;
-    out.extend_from_slice(b"}\n".as_slice())?;
-    Ok(())
+    put_text_member(out, b"message", view.finding.message.as_bytes());
+    out.put(b"}\n");
+}
+
+fn put_spot_members(out: &mut Writer, spot: Spot<'_>) {
+    put_text_member(out, b"file", spot.file);
+    put_number_member(out, b"line", spot.line);
+    put_number_member(out, b"column", spot.column);
+    put_number_member(out, b"end", spot.end);
 }

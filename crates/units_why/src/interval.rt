@@ -3,6 +3,7 @@
 ghost use Rattle.reply.specs.Options.{AreReplyOptionsPrintable};
 
 use crate::values::value_text;
+use crate::writer::Writer;
 use def_entry::{Bound, Span};
 use frac128::Frac;
 use quantity::Quantity;
@@ -11,7 +12,7 @@ use std::alloc::{AllocError, Global};
 use units_io::Text;
 
 /// An end of a function.
-#[derive(Clone, Copy, Debug, PartialEq, Eq, Drop)]
+#[derive(Clone, Copy, Drop)]
 pub(crate) enum End {
     /// The end of its argument, which is the result of its inverse.
     Domain,
@@ -69,13 +70,13 @@ fn number_in(unit: Option<&Quantity>, value: &Quantity) -> Option<Frac> {
 fn interval_text(alloc: Global, options: &Options, span: Span) -> Result<Text, AllocError>
     requires { AreReplyOptionsPrintable options.now }
 {
-    let mut text = Vec::new(alloc);
-    text.push(if is_closed(span.low) { b'[' } else { b'(' })?;
-    put_bound(alloc, &mut text, options, span.low)?;
-    text.push(b',')?;
-    put_bound(alloc, &mut text, options, span.high)?;
-    text.push(if is_closed(span.high) { b']' } else { b')' })?;
-    Ok(Text::from(text))
+    let mut text = Writer::new(alloc);
+    text.put_byte(if is_closed(span.low) { b'[' } else { b'(' });
+    put_bound(&mut text, options, span.low);
+    text.put_byte(b',');
+    put_bound(&mut text, options, span.high);
+    text.put_byte(if is_closed(span.high) { b']' } else { b')' });
+    text.into_text()
 }
 
 fn is_closed(bound: Option<Bound>) -> bool {
@@ -85,25 +86,16 @@ fn is_closed(bound: Option<Bound>) -> bool {
     }
 }
 
-fn put_bound(
-    alloc: Global,
-    text: &mut Vec<u8>,
-    options: &Options,
-    bound: Option<Bound>,
-) -> Result<(), AllocError>
+fn put_bound(text: &mut Writer, options: &Options, bound: Option<Bound>)
     requires { AreReplyOptionsPrintable options.now }
 {
-    match bound {
-        Some(bound) => {
-            let number = number_text(alloc, options, bound.at)?;
-            Ok(text.extend_from_slice(number.as_bytes())?)
-        }
-        None => Ok(()),
+    if let Some(bound) = bound {
+        text.put_fraction(options, bound.at);
     }
 }
 
-/// Returns the text of a number in the format that the options select.
-pub(crate) fn number_text(alloc: Global, options: &Options, x: Frac) -> Result<Text, AllocError>
+// Returns the text of a number in the format that the options select.
+fn number_text(alloc: Global, options: &Options, x: Frac) -> Result<Text, AllocError>
     requires { AreReplyOptionsPrintable options.now }
 {
     value_text(alloc, options, &Quantity::number(alloc, x))

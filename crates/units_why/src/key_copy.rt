@@ -23,12 +23,19 @@ impl KeyCopy {
         }
     }
 
-    /// Replaces the copy by that of another key, and returns it.
-    pub(crate) fn replace(
+    /// Replaces the copy by that of another key, and returns it, if there is another key.
+    pub(crate) fn replace_if(
         &mut self,
         alloc: Global,
-        key: BorrowedKey<'_>,
-    ) -> Result<&Key, AllocError> {
+        key: Option<BorrowedKey<'_>>,
+    ) -> Result<Option<&Key>, AllocError> {
+        match key {
+            Some(key) => Ok(Some(self.replace(alloc, key)?)),
+            None => Ok(None),
+        }
+    }
+
+    fn replace(&mut self, alloc: Global, key: BorrowedKey<'_>) -> Result<&Key, AllocError> {
         let old = mem::replace(&mut self.key.name, Text::from(Vec::new(alloc)));
         let mut name = old.into_bytes();
         name.clear();

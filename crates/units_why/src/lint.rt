@@ -3,18 +3,19 @@
 ghost use Rattle.reply.specs.Options.{AreReplyOptionsPrintable};
 
 use crate::ambiguous::put_ambiguous;
-use crate::answer::Answer;
 use crate::captures::put_captures;
 use crate::definitions::Definitions;
-use crate::entries::key_at;
+use crate::entries::key_text_at;
 use crate::evaluator::Evaluator;
-use crate::finding::{Finding, LineFinding, Severity, key_text};
+use crate::finding::{Finding, LineFinding, Severity, push_finding};
 use crate::mark::{Mark, mark_of};
+use crate::notice_report::put_notices;
 use crate::places::{Places, put_place};
-use crate::report::{Report, put_findings, put_notices};
+use crate::report::{Report, put_findings};
 use crate::shadows::Shadows;
 use crate::unmet::put_unmet;
 use crate::unused_definitions::put_unused;
+use crate::writer::Writer;
 use deck::Deck;
 use reply::Options;
 use std::alloc::{AllocError, Global};
@@ -32,32 +33,63 @@ pub(crate) fn lint<F: Files, L: Ledger>(
     asked: Findings,
     json: bool,
     files: &mut F,
-) -> Result<Answer, AllocError>
+) -> Result<Writer, AllocError>
+    requires { AreReplyOptionsPrintable options.now }
+{
+    let alloc = definitions.evaluator.alloc;
+    let findings = all_findings(definitions, options, asked, files)?;
+    let places = Places::of(definitions);
+    let report = Report {
+        alloc,
+        places,
+        json,
+    };
+    let mut out = Writer::new(alloc);
+    put_notices(report, files, &mut out)?;
+    put_findings(report, files, findings.as_slice(), &mut out)?;
+    Ok(out)
+}
+
+// Returns all findings except the notices of the load.
+fn all_findings<F: Files, L: Ledger>(
+    definitions: &mut Definitions<L>,
+    options: &Options,
+    asked: Findings,
+    files: &mut F,
+) -> Result<Vec<LineFinding>, AllocError>
     requires { AreReplyOptionsPrintable options.now }
 {
     let evaluator = &mut definitions.evaluator;
     let alloc = evaluator.alloc;
     let keys = check_places(alloc, &mut evaluator.table, &mut evaluator.steps)?;
-    let keys = keys.as_slice();
     let mut findings = Vec::new(alloc);
-    put_faults(evaluator, options, keys, &mut findings)?;
-    put_unmet(definitions, options, keys, files, &mut findings)?;
+    put_faults(evaluator, options, keys.as_slice(), &mut findings)?;
+    put_unmet(definitions, options, keys.as_slice(), files, &mut findings)?;
     let evaluator = &mut definitions.evaluator;
-    put_ambiguous(evaluator, keys, &mut findings)?;
+    put_uses(evaluator, options, asked, keys.as_slice(), &mut findings)?;
+    put_replaced(alloc, Places::of(definitions), &mut findings)?;
+    Ok(findings)
+}
+
+// Appends the findings about the words of the definitions at the places `keys`, and the optional findings that are
+// requested.
+fn put_uses<L: Ledger>(
+    evaluator: &mut Evaluator<L>,
+    options: &Options,
+    asked: Findings,
+    keys: &[usize],
+    findings: &mut Vec<LineFinding>,
+) -> Result<(), AllocError>
+    requires { AreReplyOptionsPrintable options.now }
+{
+    put_ambiguous(evaluator, keys, findings)?;
     if asked.captures {
-        put_captures(evaluator, options, keys, &mut findings)?;
+        put_captures(evaluator, options, keys, findings)?;
     }
     if asked.unused {
-        put_unused(evaluator, keys, &mut findings)?;
+        put_unused(evaluator, keys, findings)?;
     }
-    let places = Places::of(definitions);
-    put_replaced(alloc, places, &mut findings)?;
-    let mut answer = Answer::new(alloc);
-    let report = Report { places, json };
-    put_notices(alloc, report, files, &mut answer.out)?;
-    put_findings(alloc, report, files, findings.as_slice(), &mut answer.out)?;
-    answer.is_refused = !answer.out.is_empty();
-    Ok(answer)
+    Ok(())
 }
 
 // Appends a finding for each of the keys at the places `keys` that has a fault.
@@ -75,10 +107,7 @@ fn put_faults<L: Ledger>(
         evaluator.put_check(&mut line, options, *place)?;
         if !line.is_empty() {
             let finding = fault_finding(alloc, evaluator.deck(), *place, line.as_slice())?;
-            findings.push(LineFinding {
-                place: *place,
-                finding,
-            })?;
+            push_finding(findings, *place, finding)?;
             line.clear();
         }
     }
@@ -92,16 +121,19 @@ fn fault_finding(
     place: usize,
     line: &[u8],
 ) -> Result<Finding, AllocError> {
-    let key = key_text(alloc, key_at(alloc, deck, place)?)?;
-    let line = line.strip_suffix(b"\n").unwrap_or(line);
-    let rest = line.strip_prefix(key.as_bytes()).unwrap_or(line);
-    let message = rest.strip_prefix(b": ").unwrap_or(rest);
+    let key = key_text_at(alloc, deck, place)?;
+    let message = message_in(line, key.as_bytes());
     Ok(Finding {
         severity: Severity::Error,
         message: Text::from_bytes(alloc, message)?,
         mark: mark_of(alloc, key.as_bytes(), message)?,
-        key,
     })
+}
+
+fn message_in<'a>(line: &'a [u8], key: &[u8]) -> &'a [u8] {
+    let line = line.strip_suffix(b"\n").unwrap_or(line);
+    let rest = line.strip_prefix(key).unwrap_or(line);
+    rest.strip_prefix(b": ").unwrap_or(rest)
 }
 
 // Appends a finding for each definition that a later one replaces.
@@ -113,25 +145,20 @@ fn put_replaced(
     let shadows = Shadows::of(alloc, places.deck)?;
     for place in 0..places.deck.lines().len() {
         if let Some(last) = shadows.line_in_force(places.deck, place) {
-            let finding = replaced_finding(alloc, places, place, last)?;
-            findings.push(LineFinding { place, finding })?;
+            push_finding(findings, place, replaced_finding(alloc, places, last)?)?;
         }
     }
     Ok(())
 }
 
-fn replaced_finding(
-    alloc: Global,
-    places: Places<'_>,
-    place: usize,
-    last: usize,
-) -> Result<Finding, AllocError> {
-    let mut message = Vec::from_slice(alloc, b"replaced by the definition at ")?;
-    put_place(&mut message, places, last)?;
+// Returns the finding for a definition that the one at `last` replaces.
+fn replaced_finding(alloc: Global, places: Places<'_>, last: usize) -> Result<Finding, AllocError> {
+    let mut message = Writer::new(alloc);
+    message.put(b"replaced by the definition at ");
+    put_place(&mut message, places, last);
     Ok(Finding {
         severity: Severity::Warning,
-        key: key_text(alloc, key_at(alloc, places.deck, place)?)?,
-        message: Text::from(message),
+        message: message.into_text()?,
         mark: Mark::Name,
     })
 }

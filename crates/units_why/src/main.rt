@@ -3,7 +3,6 @@
 
 mod aliases;
 mod ambiguous;
-mod answer;
 mod built_in;
 mod call_trace;
 mod callee;
@@ -22,6 +21,7 @@ mod line_names;
 mod lint;
 mod mark;
 mod notice;
+mod notice_report;
 mod open_calls;
 mod open_file;
 mod outcome;
@@ -37,6 +37,7 @@ mod row_style;
 mod row_text;
 mod row_view;
 mod row_words;
+mod rows;
 mod run;
 mod segment;
 mod shadows;
@@ -51,6 +52,7 @@ mod unmet;
 mod unused_definitions;
 mod values;
 mod why;
+mod writer;
 
 ghost use Rattle.std.specs.Prelude.{◌≡◌, ◌<◌};
 

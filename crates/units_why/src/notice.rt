@@ -45,7 +45,6 @@ fn read_line_number(text: &[u8]) -> Option<(usize, &[u8])> {
 pub(crate) fn notice_finding(alloc: Global, message: &[u8]) -> Result<Finding, AllocError> {
     Ok(Finding {
         severity: Severity::Error,
-        key: Text::from_bytes(alloc, b"")?,
         message: Text::from_bytes(alloc, message)?,
         mark: mark_of(alloc, b"", message)?,
     })

@@ -17,13 +17,13 @@ pub(crate) struct OpenFile {
 
 impl OpenFile {
     /// Returns the state in which no file is open.
-    pub(crate) fn none(alloc: Global) -> Result<OpenFile, AllocError> {
-        Ok(OpenFile {
+    pub(crate) fn none(alloc: Global) -> OpenFile {
+        OpenFile {
             number: usize::MAX,
-            text: Text::from_bytes(alloc, b"")?,
+            text: Text::from(Vec::new(alloc)),
             at: 0,
             lines: 0,
-        })
+        }
     }
 
     /// Opens the file with this number and name, unless it is already open, and returns whether it was opened. A file

@@ -79,16 +79,9 @@ pub(crate) fn outcome_of<L: Ledger>(
 ) -> Result<Outcome, AllocError>
     requires { AreReplyOptionsPrintable options.now }
 {
-    let alloc = evaluator.alloc;
-    let found = match evaluator.table.cached_outcome(alloc, key)? {
-        Some(CachedOutcome::Value(value)) => return Ok(Outcome::Value(value.copy(alloc)?)),
-        Some(CachedOutcome::Callable) => return Ok(Outcome::Function),
-        Some(CachedOutcome::Fault(fault)) => Queried::Fault(fault.get().copy(alloc)?),
-        None => ask_key(evaluator, key)?,
-    };
-    let fault = match found {
-        Queried::Fault(fault) => fault,
+    let fault = match query_key(evaluator, key)? {
         Queried::Known(outcome) => return Ok(outcome),
+        Queried::Fault(fault) => fault,
     };
     if is_fault_below(evaluator, depth, walk)? {
         return Ok(Outcome::FaultBelow);
@@ -101,6 +94,19 @@ pub(crate) fn outcome_of<L: Ledger>(
 enum Queried {
     Known(Outcome),
     Fault(ValueFault),
+}
+
+// Returns the cached outcome of a key, or queries it.
+fn query_key<L: Ledger>(evaluator: &mut Evaluator<L>, key: &Key) -> Result<Queried, AllocError> {
+    let alloc = evaluator.alloc;
+    match evaluator.table.cached_outcome(alloc, key)? {
+        Some(CachedOutcome::Value(value)) => {
+            Ok(Queried::Known(Outcome::Value(value.copy(alloc)?)))
+        }
+        Some(CachedOutcome::Callable) => Ok(Queried::Known(Outcome::Function)),
+        Some(CachedOutcome::Fault(fault)) => Ok(Queried::Fault(fault.get().copy(alloc)?)),
+        None => ask_key(evaluator, key),
+    }
 }
 
 // Queries a key without a cached outcome: a name fault ended the query of the expression before it reached the key.
@@ -127,10 +133,7 @@ fn own_fault<L: Ledger>(
 {
     let alloc = evaluator.alloc;
     let text = fault_text(alloc, &ReplyFault::Value(fault), options)?;
-    let step = match step_of_key(evaluator, key)? {
-        Some(step) => Some(FaultStep::of(alloc, options, &step)?),
-        None => None,
-    };
+    let step = FaultStep::of_if(alloc, options, step_of_key(evaluator, key)?)?;
     let own = OwnFault { text, step };
     Ok(Outcome::Fault(Box::new(alloc, own)?))
 }
@@ -157,7 +160,6 @@ pub(crate) fn has_fault<L: Ledger>(
     evaluator: &mut Evaluator<L>,
     mention: &StoredMention,
 ) -> Result<bool, AllocError> {
-    let alloc = evaluator.alloc;
     let deck = evaluator.deck();
     let Some(place) = mention.place() else {
         return Ok(true);
@@ -165,13 +167,17 @@ pub(crate) fn has_fault<L: Ledger>(
     if mention.is_refused(deck) {
         return Ok(true);
     }
-    let Some(key) = key_at(alloc, deck, place)? else {
-        return Ok(true);
-    };
-    match evaluator.table.cached_outcome(alloc, &key)? {
+    match key_at(evaluator.alloc, deck, place)? {
+        Some(key) => has_key_fault(evaluator, &key),
+        None => Ok(true),
+    }
+}
+
+fn has_key_fault<L: Ledger>(evaluator: &mut Evaluator<L>, key: &Key) -> Result<bool, AllocError> {
+    match evaluator.table.cached_outcome(evaluator.alloc, key)? {
         Some(CachedOutcome::Fault(_)) => Ok(true),
-        Some(CachedOutcome::Value(_)) | Some(CachedOutcome::Callable) => Ok(false),
-        None => has_queried_fault(evaluator, &key),
+        Some(CachedOutcome::Value(_) | CachedOutcome::Callable) => Ok(false),
+        None => has_queried_fault(evaluator, key),
     }
 }
 

@@ -8,7 +8,7 @@ use units_io::{Failed, Sink, put_all};
 const BLOCK: usize = 65536;
 
 /// The reasons why an answer ends early.
-#[derive(Clone, Copy, Debug, PartialEq, Eq)]
+#[derive(Clone, Copy)]
 pub(crate) enum OutputFault {
     /// The answer could not be written.
     WriteFailed,

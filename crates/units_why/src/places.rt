@@ -4,8 +4,8 @@ use crate::decimal::put_number;
 use crate::definitions::Definitions;
 use crate::json::{put_number_member, put_text_member};
 use crate::line_names::LineNames;
+use crate::writer::Writer;
 use deck::Deck;
-use std::alloc::AllocError;
 use std::sync::ledger::Ledger;
 
 /// Maps the lines of a deck to files.
@@ -54,32 +54,21 @@ impl<'a> Places<'a> {
 }
 
 /// Appends `FILE:LINE`, or `?` if the files of the lines are unknown.
-pub(crate) fn put_place(
-    out: &mut Vec<u8>,
-    places: Places<'_>,
-    place: usize,
-) -> Result<(), AllocError> {
+pub(crate) fn put_place(out: &mut Writer, places: Places<'_>, place: usize) {
     match places.line(place) {
         Some(line) => {
-            out.extend_from_slice(line.file)?;
-            out.push(b':')?;
-            put_number(out, line.number)
+            out.put(line.file);
+            out.put_byte(b':');
+            put_number(out, line.number);
         }
-        None => Ok(out.push(b'?')?),
+        None => out.put_byte(b'?'),
     }
 }
 
 /// Appends the members `file` and `line`, each after a comma, if they are known.
-pub(crate) fn put_place_members(
-    out: &mut Vec<u8>,
-    places: Places<'_>,
-    place: usize,
-) -> Result<(), AllocError> {
-    match places.line(place) {
-        Some(line) => {
-            put_text_member(out, b"file", line.file)?;
-            put_number_member(out, b"line", line.number)
-        }
-        None => Ok(()),
+pub(crate) fn put_place_members(out: &mut Writer, places: Places<'_>, place: usize) {
+    if let Some(line) = places.line(place) {
+        put_text_member(out, b"file", line.file);
+        put_number_member(out, b"line", line.number);
     }
 }

@@ -22,7 +22,7 @@ pub(crate) struct RowNote {
 }
 
 /// How a row relates to the definition of its key.
-#[derive(Clone, Copy, Debug, PartialEq, Eq, Drop)]
+#[derive(Clone, Copy, Drop)]
 pub(crate) enum Standing {
     /// The word is unknown, or the name of a function that is refused.
     Unknown,
@@ -62,13 +62,29 @@ impl RowNotes {
         requires { AreReplyOptionsPrintable options.now }
     {
         self.path.leave(row.mention.depth());
-        let deck = evaluator.deck();
-        let standing = self.relation_to_definition(deck, row);
-        let alloc = evaluator.alloc;
-        let call = self.calls.next_call(alloc, deck, &self.path, &row.mention)?;
-        let call = boxed_trace(evaluator, options, call)?;
+        let standing = self.relation_to_definition(evaluator.deck(), row);
+        let call = self.next_trace(evaluator, options, row)?;
         self.path.enter(defined_at(standing))?;
         Ok(RowNote { standing, call })
+    }
+
+    // Returns how the call that the word of a row begins is evaluated, if there is one.
+    fn next_trace<L: Ledger>(
+        &mut self,
+        evaluator: &mut Evaluator<L>,
+        options: &Options,
+        row: &Row,
+    ) -> Result<Option<Box<CallTrace>>, AllocError>
+        requires { AreReplyOptionsPrintable options.now }
+    {
+        let deck = evaluator.deck();
+        let call = self
+            .calls
+            .next_call(evaluator.alloc, deck, &self.path, &row.mention)?;
+        match call {
+            Some(call) => boxed_trace(evaluator, options, &call),
+            None => Ok(None),
+        }
     }
 
     // Returns how a row relates to the definition of its key.
@@ -97,18 +113,14 @@ fn defined_at(standing: Standing) -> Option<usize> {
     }
 }
 
-// Returns how a call is evaluated, if there is one.
 fn boxed_trace<L: Ledger>(
     evaluator: &mut Evaluator<L>,
     options: &Options,
-    call: Option<Tree>,
+    call: &Tree,
 ) -> Result<Option<Box<CallTrace>>, AllocError>
     requires { AreReplyOptionsPrintable options.now }
 {
-    let Some(call) = call else {
-        return Ok(None);
-    };
-    match trace_call(evaluator, options, &call)? {
+    match trace_call(evaluator, options, call)? {
         Some(trace) => Ok(Some(Box::new(evaluator.alloc, trace)?)),
         None => Ok(None),
     }

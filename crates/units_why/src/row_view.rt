@@ -7,18 +7,18 @@ use value_sources::StoredMention;
 
 /// A row with what a tree shows about it.
 #[derive(Clone, Copy)]
-pub(crate) struct RowView<'r, 'o> {
+pub(crate) struct RowView<'r, 'k, 'o> {
     pub(crate) mention: &'r StoredMention,
     /// The key that its word leads to.
-    pub(crate) key: Option<&'r Key>,
+    pub(crate) key: Option<&'k Key>,
     pub(crate) note: &'r RowNote,
     /// The outcome of its key. It is used only if the row shows the definition of its key.
     pub(crate) outcome: LentOutcome<'o>,
 }
 
-impl<'r> RowView<'r, '_> {
+impl<'r, 'k> RowView<'r, 'k, '_> {
     /// Returns the row with another outcome.
-    pub(crate) fn with_outcome<'o>(self, outcome: LentOutcome<'o>) -> RowView<'r, 'o> {
+    pub(crate) fn with_outcome<'o>(self, outcome: LentOutcome<'o>) -> RowView<'r, 'k, 'o> {
         RowView {
             mention: self.mention,
             key: self.key,

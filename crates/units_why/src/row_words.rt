@@ -1,11 +1,11 @@
 //! The words that describe rows.
 
 use crate::row_view::RowView;
+use crate::writer::Writer;
 use deck::Deck;
-use def_entry::{Key, Kind, put_key};
+use def_entry::{Key, Kind};
 use def_lines::trim;
 use expr_tree::WordKind;
-use std::alloc::AllocError;
 use value_sources::{Resolution, Site, StoredMention};
 
 /// Returns how a word leads to its key.
@@ -60,14 +60,10 @@ pub(crate) fn rewritten_word<'a>(
 }
 
 /// Appends the name of a row: its key, or its word if the word is unknown.
-pub(crate) fn put_name(
-    out: &mut Vec<u8>,
-    deck: &Deck,
-    view: RowView<'_, '_>,
-) -> Result<(), AllocError> {
+pub(crate) fn put_name(out: &mut Writer, deck: &Deck, view: RowView<'_, '_, '_>) {
     match view.key {
-        Some(key) => put_key(out, key),
-        None => Ok(out.extend_from_slice(view.mention.word(deck))?),
+        Some(key) => out.put_key(key),
+        None => out.put(view.mention.word(deck)),
     }
 }
 

@@ -10,9 +10,10 @@ use crate::ports::Ports;
 use crate::status::Status;
 use crate::stop::Stop;
 use crate::why::{Question, explain};
+use crate::writer::Writer;
 use deck::Deck;
 use reply::Options;
-use std::alloc::{AllocError, Global};
+use std::alloc::Global;
 use std::mem;
 use std::sync::ledger::Ledger;
 use units_io::{Files, Sink, Steps, Text, Vars, put_all};
@@ -70,20 +71,16 @@ fn report_stop<E: Sink>(alloc: Global, err: &mut E, request: &Request, stop: Sto
     let Some(words) = stop.words() else {
         return stop.status();
     };
-    match complaint(alloc, words, request) {
-        Ok(text) => complain(err, text.as_bytes(), stop.status()),
-        Err(AllocError) => Status::NoMemory,
-    }
-}
-
-// Returns a line with `words` and the name of the file.
-fn complaint(alloc: Global, words: &[u8], request: &Request) -> Result<Text, AllocError> {
-    let mut text = Vec::from_slice(alloc, words)?;
+    let mut line = Writer::new(alloc);
+    line.put(words);
     if let Some(name) = &request.file {
-        text.extend_from_slice(name.as_bytes())?;
+        line.put(name.as_bytes());
     }
-    text.push(b'\n')?;
-    Ok(Text::from(text))
+    line.put_byte(b'\n');
+    match line.send(err) {
+        Ok(()) => stop.status(),
+        Err(fault) => fault.status(),
+    }
 }
 
 // Writes the answer to a request, error messages first. Returns whether the request is refused.
@@ -95,8 +92,7 @@ fn answer<O: Sink, E: Sink, F: Files, L: Ledger>(
     requires { HasWhyDigits request.now }
 {
     let options = options_of(request);
-    let messages = messages(definitions, &request.inquiry)?;
-    put_all(&mut ports.err, messages.as_slice())?;
+    messages(definitions, &request.inquiry).send(&mut ports.err)?;
     match &request.inquiry {
         Inquiry::Value(from, to) => {
             let question = question_of(from, to, request.json);
@@ -104,39 +100,31 @@ fn answer<O: Sink, E: Sink, F: Files, L: Ledger>(
         }
         Inquiry::Lint(asked) => {
             let files = &mut ports.files;
-            let answer = lint(definitions, &options, *asked, request.json, files)?;
-            put_all(&mut ports.out, answer.out.as_slice())?;
-            Ok(answer.is_refused)
+            let findings = lint(definitions, &options, *asked, request.json, files)?;
+            findings.send(&mut ports.out)?;
+            Ok(!findings.is_empty())
         }
     }
 }
 
 // Returns the error messages of a run. The findings of `--lint` contain the notices of the load.
-fn messages<L: Ledger>(
-    definitions: &Definitions<L>,
-    inquiry: &Inquiry,
-) -> Result<Vec<u8>, AllocError> {
-    let evaluator = &definitions.evaluator;
-    let mut text = match inquiry {
-        Inquiry::Value(_, _) => notice_lines(evaluator.alloc, evaluator.deck())?,
-        Inquiry::Lint(_) => Vec::new(evaluator.alloc),
-    };
-    if definitions.names.is_none() {
-        text.extend_from_slice(
-            b"units-why: a file changed while it was read, so no line has a place\n".as_slice(),
-        )?;
+fn messages<L: Ledger>(definitions: &Definitions<L>, inquiry: &Inquiry) -> Writer {
+    let mut out = Writer::new(definitions.evaluator.alloc);
+    if let Inquiry::Value(_, _) = inquiry {
+        put_notices(&mut out, definitions.evaluator.deck());
     }
-    Ok(text)
+    if definitions.names.is_none() {
+        out.put(b"units-why: a file changed while it was read, so no line has a place\n");
+    }
+    out
 }
 
-// Returns the notices of the load, one per line.
-fn notice_lines(alloc: Global, deck: &Deck) -> Result<Vec<u8>, AllocError> {
-    let mut text = Vec::new(alloc);
+// Appends the notices of the load, one per line.
+fn put_notices(out: &mut Writer, deck: &Deck) {
     for notice in deck.notices().as_slice() {
-        text.extend_from_slice(notice.as_bytes())?;
-        text.push(b'\n')?;
+        out.put(notice.as_bytes());
+        out.put_byte(b'\n');
     }
-    Ok(text)
 }
 
 fn question_of<'a>(from: &'a Text, to: &'a Option<Text>, json: bool) -> Question<'a> {

@@ -5,6 +5,9 @@ use crate::text_part::{cut_line, part_of};
 use def_lines::clean;
 use units_io::{is_blank, prefix_len};
 
+// The bytes of expressions that end a word.
+const SIGNS: &[u8] = b"+-*/|^;~#()[]";
+
 /// A range of bytes in a line, counted from 0.
 #[derive(Clone, Copy)]
 pub(crate) struct Span {
@@ -12,6 +15,13 @@ pub(crate) struct Span {
     pub(crate) below: usize,
     pub(crate) start: usize,
     pub(crate) end: usize,
+}
+
+impl Span {
+    /// Returns an empty range at the start of a line.
+    pub(crate) fn nowhere() -> Span {
+        span_in_line(0, 0)
+    }
 }
 
 /// Returns the place of `mark` in a text that begins with the line of the definition. Falls back to the place of the
@@ -156,9 +166,6 @@ fn is_word_with_power(text: &[u8], word: &[u8]) -> bool {
 
 // Returns whether a byte may be in a word of an expression.
 fn is_word_byte(byte: u8) -> bool {
-    let is_sign = matches!(
-        byte,
-        b'+' | b'-' | b'*' | b'/' | b'|' | b'^' | b';' | b'~' | b'#' | b'(' | b')' | b'[' | b']'
-    );
+    let is_sign = SIGNS.iter().any(|sign| *sign == byte);
     !is_sign && !is_blank(byte) && !byte.is_ascii_control()
 }

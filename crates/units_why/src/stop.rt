@@ -5,7 +5,7 @@ use deck::DeckFault;
 use std::alloc::AllocError;
 
 /// The reasons why a run ends without an answer.
-#[derive(Clone, Copy, Debug, PartialEq, Eq)]
+#[derive(Clone, Copy)]
 pub(crate) enum Stop {
     /// There is no file with this name.
     NoFile,

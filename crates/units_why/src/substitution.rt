@@ -5,6 +5,7 @@ use expr_tree::{Factors, Terms, Tree, Trees, parse_expr, view_law};
 use quantity::{Quantity, Style};
 use std::alloc::{AllocError, Global};
 use std::sync::ledger::Ledger;
+use units_io::Text;
 
 /// Returns the value of an expression of a function at an argument: the value of the expression in which the argument
 /// is replaced by its value. `None` if that expression has no value.
@@ -28,14 +29,14 @@ fn substitute_tree(alloc: Global, tree: &Tree, value: &Tree) -> Result<Tree, All
     view_law();
     match tree {
         Tree::Number(_) | Tree::Bar(_) | Tree::Word(_) => tree.copy(alloc),
-        Tree::Argument => Ok(Tree::Group(Box::new(alloc, value.copy(alloc)?)?)),
+        Tree::Argument => group_of(alloc, value),
         Tree::Call(word, operand) => {
-            let word = Box::new(alloc, word.copy(alloc)?)?;
-            Ok(Tree::Call(word, substitute_box(alloc, operand, value)?))
+            let operand = substitute_box(alloc, operand, value)?;
+            call_of(alloc, word, operand)
         }
         Tree::Inverse(word, operand) => {
-            let word = Box::new(alloc, word.copy(alloc)?)?;
-            Ok(Tree::Inverse(word, substitute_box(alloc, operand, value)?))
+            let operand = substitute_box(alloc, operand, value)?;
+            inverse_of(alloc, word, operand)
         }
         Tree::Root(kind, operand) => Ok(Tree::Root(*kind, substitute_box(alloc, operand, value)?)),
         Tree::Group(operand) => Ok(Tree::Group(substitute_box(alloc, operand, value)?)),
@@ -48,6 +49,22 @@ fn substitute_tree(alloc: Global, tree: &Tree, value: &Tree) -> Result<Tree, All
         Tree::Product(product) => Ok(Tree::Product(factors_with(alloc, product, value)?)),
         Tree::Sum(sum) => Ok(Tree::Sum(terms_with(alloc, sum, value)?)),
     }
+}
+
+// Copies a tree into parentheses.
+fn group_of(alloc: Global, tree: &Tree) -> Result<Tree, AllocError> {
+    let copy = tree.copy(alloc)?;
+    Ok(Tree::Group(Box::new(alloc, copy)?))
+}
+
+fn call_of(alloc: Global, word: &Text, operand: Box<Tree>) -> Result<Tree, AllocError> {
+    let word = Box::new(alloc, word.copy(alloc)?)?;
+    Ok(Tree::Call(word, operand))
+}
+
+fn inverse_of(alloc: Global, word: &Text, operand: Box<Tree>) -> Result<Tree, AllocError> {
+    let word = Box::new(alloc, word.copy(alloc)?)?;
+    Ok(Tree::Inverse(word, operand))
 }
 
 #[cycle(substitute)]

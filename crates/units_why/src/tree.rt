@@ -32,16 +32,27 @@ pub(crate) fn tree_of<L: Ledger>(
     requires { AreReplyOptionsPrintable options.now }
 {
     let alloc = evaluator.alloc;
-    let Ok(tree) = parse_expr(alloc, text, None) else {
-        return Ok(RowTree {
+    match parse_expr(alloc, text, None) {
+        Ok(tree) => tree_with_rows(evaluator, options, &tree),
+        Err(_) => Ok(RowTree {
             walk: None,
             calls: OpenCalls::none(alloc),
             step: None,
-        });
-    };
-    let walk = Walk::new(alloc, evaluator.deck(), &tree)?;
-    let step = own_step(evaluator, options, &tree, &walk)?;
-    let calls = OpenCalls::new(alloc, &tree)?;
+        }),
+    }
+}
+
+fn tree_with_rows<L: Ledger>(
+    evaluator: &mut Evaluator<L>,
+    options: &Options,
+    tree: &Tree,
+) -> Result<RowTree, AllocError>
+    requires { AreReplyOptionsPrintable options.now }
+{
+    let alloc = evaluator.alloc;
+    let walk = Walk::new(alloc, evaluator.deck(), tree)?;
+    let step = own_step(evaluator, options, tree, &walk)?;
+    let calls = OpenCalls::new(alloc, tree)?;
     Ok(RowTree {
         walk: Some(walk),
         calls,
@@ -64,8 +75,6 @@ fn own_step<L: Ledger>(
             return Ok(None);
         }
     }
-    match step_of_tree(evaluator, tree)? {
-        Some(step) => Ok(Some(FaultStep::of(evaluator.alloc, options, &step)?)),
-        None => Ok(None),
-    }
+    let step = step_of_tree(evaluator, tree)?;
+    FaultStep::of_if(evaluator.alloc, options, step)
 }

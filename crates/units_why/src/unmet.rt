@@ -6,15 +6,16 @@ use crate::aliases::Aliases;
 use crate::definitions::Definitions;
 use crate::entries::{key_at, what_at};
 use crate::evaluator::{Evaluated, Evaluator};
-use crate::finding::{Finding, LineFinding, Severity, key_text};
+use crate::finding::{Finding, LineFinding, Severity, push_finding};
 use crate::mark::Mark;
 use crate::open_file::OpenFile;
 use crate::places::Places;
 use crate::unit_notes::UnitNotes;
-use crate::values::value_text;
+use crate::writer::Writer;
 use deck::Deck;
 use def_entry::{Kind, What, parse_fault_text};
 use expr_tree::{ParseFault, Tree, parse_expr};
+use quantity::Quantity;
 use reply::Options;
 use std::alloc::{AllocError, Global};
 use std::sync::ledger::Ledger;
@@ -47,18 +48,20 @@ pub(crate) fn put_unmet<F: Files, L: Ledger>(
     let evaluator = &mut definitions.evaluator;
     let mut aliases = Aliases::new(alloc, evaluator.deck())?;
     for noted in noted.as_slice() {
-        let place = aliases.end(alloc, evaluator.deck(), noted.place)?;
-        if let Some(tree) = result_tree(alloc, evaluator.deck(), place)? {
-            if let Some(message) = unmet_message(evaluator, options, &noted.unit, &tree)? {
-                let finding = unmet_finding(alloc, evaluator.deck(), noted.place, message)?;
-                findings.push(LineFinding {
-                    place: noted.place,
-                    finding,
-                })?;
-            }
+        let end = aliases.end(alloc, evaluator.deck(), noted.place)?;
+        if let Some(message) = unmet_message(evaluator, options, &noted.unit, end)? {
+            push_finding(findings, noted.place, unmet_finding(message))?;
         }
     }
     Ok(())
+}
+
+fn unmet_finding(message: Text) -> Finding {
+    Finding {
+        severity: Severity::Warning,
+        message,
+        mark: Mark::Name,
+    }
 }
 
 // Returns the units that the comments of the definitions at the places `keys` name, in the order of the files and their
@@ -69,27 +72,69 @@ fn noted_units<F: Files>(
     keys: &[usize],
     files: &mut F,
 ) -> Result<Vec<NotedUnit>, AllocError> {
+    let order = order_of(alloc, places, keys)?;
+    let mut file = NotedFile {
+        open: OpenFile::none(alloc),
+        notes: UnitNotes::none(alloc),
+    };
+    let mut noted = Vec::new(alloc);
+    for (number, place) in order.as_slice() {
+        if let Some(line) = places.line(*place) {
+            file.open(alloc, files, places, *number, line.file)?;
+            if let Some(unit) = file.notes.unit_at(line.number) {
+                push_noted(alloc, &mut noted, *place, unit)?;
+            }
+        }
+    }
+    Ok(noted)
+}
+
+// Returns the file number and the place of each definition, sorted.
+fn order_of(
+    alloc: Global,
+    places: Places<'_>,
+    keys: &[usize],
+) -> Result<Vec<(usize, usize)>, AllocError> {
     let mut order = Vec::new(alloc);
     for place in keys {
         order.push((places.file_number(*place), *place))?;
     }
     order.sort_unstable();
-    let mut noted = Vec::new(alloc);
-    let mut open = OpenFile::none(alloc)?;
-    let mut notes = UnitNotes::none(alloc);
-    for (number, place) in order.as_slice() {
-        if let Some(line) = places.line(*place) {
-            if open.open(alloc, files, places, *number, line.file)? {
-                notes = UnitNotes::read_notes(alloc, open.text())?;
-            }
-            if let Some(unit) = notes.unit_at(line.number) {
-                let unit = Text::from_bytes(alloc, unit)?;
-                let place = *place;
-                noted.push(NotedUnit { place, unit })?;
-            }
+    Ok(order)
+}
+
+fn push_noted(
+    alloc: Global,
+    noted: &mut Vec<NotedUnit>,
+    place: usize,
+    unit: &[u8],
+) -> Result<(), AllocError> {
+    let unit = Text::from_bytes(alloc, unit)?;
+    Ok(noted.push(NotedUnit { place, unit })?)
+}
+
+// An open file and the units that its comments name.
+#[derive(Drop)]
+struct NotedFile {
+    open: OpenFile,
+    notes: UnitNotes,
+}
+
+impl NotedFile {
+    // Opens the file with this number and name, unless it is already open, and reads its notes.
+    fn open<F: Files>(
+        &mut self,
+        alloc: Global,
+        files: &mut F,
+        places: Places<'_>,
+        number: usize,
+        name: &[u8],
+    ) -> Result<(), AllocError> {
+        if self.open.open(alloc, files, places, number, name)? {
+            self.notes = UnitNotes::read_notes(alloc, self.open.text())?;
         }
+        Ok(())
     }
-    Ok(noted)
 }
 
 // Returns an expression that conforms to the result of the definition at a place, or `None` if the result is not
@@ -118,57 +163,69 @@ fn copy_if(alloc: Global, tree: Option<&Tree>) -> Result<Option<Tree>, AllocErro
     }
 }
 
-// Returns what is wrong with an expression that must conform to a unit. An expression without a value is reported
-// elsewhere.
+// Returns the fault of the definition whose aliases end at a place if its result does not conform to a unit. A result
+// without a value is reported elsewhere.
 fn unmet_message<L: Ledger>(
     evaluator: &mut Evaluator<L>,
     options: &Options,
     unit: &Text,
+    end: usize,
+) -> Result<Option<Text>, AllocError>
+    requires { AreReplyOptionsPrintable options.now }
+{
+    let Some(tree) = result_tree(evaluator.alloc, evaluator.deck(), end)? else {
+        return Ok(None);
+    };
+    match unit_value(evaluator, options, unit)? {
+        Evaluated::Value(wanted) => unlike_message(evaluator, options, unit, &wanted, &tree),
+        Evaluated::Fault(fault) => Ok(Some(unit_fault(evaluator.alloc, unit, &fault)?)),
+    }
+}
+
+// Returns the value of a unit in a comment, or its fault.
+fn unit_value<L: Ledger>(
+    evaluator: &mut Evaluator<L>,
+    options: &Options,
+    unit: &Text,
+) -> Result<Evaluated, AllocError>
+    requires { AreReplyOptionsPrintable options.now }
+{
+    let alloc = evaluator.alloc;
+    match parse_expr(alloc, unit.as_bytes(), None) {
+        Ok(unit) => evaluator.evaluate(options, &unit),
+        Err(ParseFault::OutOfMemory) => Err(AllocError),
+        Err(fault) => Ok(Evaluated::Fault(parse_fault_text(alloc, fault)?)),
+    }
+}
+
+// Returns the message about an expression whose value does not conform to that of a unit.
+fn unlike_message<L: Ledger>(
+    evaluator: &mut Evaluator<L>,
+    options: &Options,
+    unit: &Text,
+    wanted: &Quantity,
     tree: &Tree,
 ) -> Result<Option<Text>, AllocError>
     requires { AreReplyOptionsPrintable options.now }
 {
-    let alloc = evaluator.alloc;
-    let wanted = match parse_expr(alloc, unit.as_bytes(), None) {
-        Ok(unit) => evaluator.evaluate(options, &unit)?,
-        Err(ParseFault::OutOfMemory) => return Err(AllocError),
-        Err(fault) => Evaluated::Fault(parse_fault_text(alloc, fault)?),
-    };
-    let wanted = match wanted {
-        Evaluated::Value(wanted) => wanted,
-        Evaluated::Fault(fault) => return Ok(Some(unit_fault(alloc, unit, &fault)?)),
-    };
-    let Some(found) = evaluator.value_if_any(tree)? else {
-        return Ok(None);
-    };
-    if found.conforms(&wanted) {
-        return Ok(None);
+    match evaluator.value_if_any(tree)? {
+        Some(found) if !found.conforms(wanted) => {
+            let mut message = Writer::new(evaluator.alloc);
+            message.put_value(options, &found);
+            message.put(b" does not conform to ");
+            message.put(unit.as_bytes());
+            Ok(Some(message.into_text()?))
+        }
+        _ => Ok(None),
     }
-    let mut message = value_text(alloc, options, &found)?.into_bytes();
-    message.extend_from_slice(b" does not conform to ".as_slice())?;
-    message.extend_from_slice(unit.as_bytes())?;
-    Ok(Some(Text::from(message)))
 }
 
 // Returns the message about a unit in a comment that has no value.
 fn unit_fault(alloc: Global, unit: &Text, fault: &Text) -> Result<Text, AllocError> {
-    let mut message = Vec::from_slice(alloc, b"the unit of its comment, ")?;
-    message.extend_from_slice(unit.as_bytes())?;
-    message.extend_from_slice(b", has no value: ".as_slice())?;
-    message.extend_from_slice(fault.as_bytes())?;
-    Ok(Text::from(message))
-}
-
-fn unmet_finding(
-    alloc: Global,
-    deck: &Deck,
-    place: usize,
-    message: Text,
-) -> Result<Finding, AllocError> {
-    Ok(Finding {
-        severity: Severity::Warning,
-        key: key_text(alloc, key_at(alloc, deck, place)?)?,
-        message,
-        mark: Mark::Name,
-    })
+    let mut message = Writer::new(alloc);
+    message.put(b"the unit of its comment, ");
+    message.put(unit.as_bytes());
+    message.put(b", has no value: ");
+    message.put(fault.as_bytes());
+    message.into_text()
 }

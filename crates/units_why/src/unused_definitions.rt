@@ -2,11 +2,11 @@
 
 use crate::entries::{entry_words, key_at, what_at};
 use crate::evaluator::Evaluator;
-use crate::finding::{Finding, LineFinding, Severity, key_text};
+use crate::finding::{Finding, LineFinding, Severity, push_finding};
 use crate::mark::Mark;
 use deck::Deck;
-use def_entry::{Key, Kind, What};
-use expr_tree::{Tree, WordKind, WordUse};
+use def_entry::{Kind, What};
+use expr_tree::{WordKind, WordUse};
 use std::alloc::{AllocError, Global};
 use std::sync::ledger::Ledger;
 use units_io::Text;
@@ -28,42 +28,46 @@ pub(crate) fn put_unused<L: Ledger>(
     let alloc = evaluator.alloc;
     let uses = Uses::of(alloc, evaluator.deck(), keys)?;
     for place in keys {
-        if uses.is_used_at(*place) {
-            continue;
-        }
-        if let Some(key) = key_at(alloc, evaluator.deck(), *place)? {
-            if !is_for_readers(evaluator, &key, *place)? {
-                findings.push(LineFinding {
-                    place: *place,
-                    finding: Finding {
-                        severity: Severity::Information,
-                        key: key_text(alloc, Some(key))?,
-                        message: Text::from_bytes(alloc, b"no other definition uses it")?,
-                        mark: Mark::Name,
-                    },
-                })?;
-            }
+        if !uses.is_used_at(*place) && !is_for_readers(evaluator, *place)? {
+            push_finding(findings, *place, unused_finding(alloc)?)?;
         }
     }
     Ok(())
 }
 
-// Returns whether a key is a list, or a unit whose value is not a number.
+fn unused_finding(alloc: Global) -> Result<Finding, AllocError> {
+    Ok(Finding {
+        severity: Severity::Information,
+        message: Text::from_bytes(alloc, b"no other definition uses it")?,
+        mark: Mark::Name,
+    })
+}
+
+// Returns whether the line at a place defines a list, a unit whose value is not a number, or no key.
 fn is_for_readers<L: Ledger>(
     evaluator: &mut Evaluator<L>,
-    key: &Key,
     place: usize,
 ) -> Result<bool, AllocError> {
+    let Some(key) = key_at(evaluator.alloc, evaluator.deck(), place)? else {
+        return Ok(true);
+    };
     match key.kind {
-        Kind::List => return Ok(true),
-        Kind::Prefix | Kind::Func => return Ok(false),
-        Kind::Unit => {}
+        Kind::List => Ok(true),
+        Kind::Prefix | Kind::Func => Ok(false),
+        Kind::Unit => is_unit_of_measure(evaluator, &key.name, place),
     }
+}
+
+// Returns whether the value of a unit, which the line at a place defines, is not a number.
+fn is_unit_of_measure<L: Ledger>(
+    evaluator: &mut Evaluator<L>,
+    unit: &Text,
+    place: usize,
+) -> Result<bool, AllocError> {
     if let Some(What::Primitive | What::Dimensionless) = what_at(evaluator.deck(), place) {
         return Ok(true);
     }
-    let word = Tree::Word(key.name.copy(evaluator.alloc)?);
-    match evaluator.value_if_any(&word)? {
+    match evaluator.word_value(unit)? {
         Some(value) => Ok(!value.is_number()),
         None => Ok(true),
     }
@@ -77,54 +81,75 @@ impl Uses {
         let mut uses = Uses { is_used };
         for place in keys {
             if let Some(what) = what_at(deck, *place) {
-                let words = entry_words(alloc, what)?;
-                for word in words.as_slice() {
-                    uses.take_word(alloc, deck, *place, word)?;
-                }
+                uses.take_words(alloc, deck, *place, what)?;
             }
         }
         Ok(uses)
+    }
+
+    // Records the uses in the definition at `place`.
+    fn take_words(
+        &mut self,
+        alloc: Global,
+        deck: &Deck,
+        place: usize,
+        what: &What,
+    ) -> Result<(), AllocError> {
+        let words = entry_words(alloc, what)?;
+        for word in words.as_slice() {
+            if !self.take_name(deck, place, word) {
+                self.take_first_reading(alloc, deck, place, word)?;
+            }
+        }
+        Ok(())
     }
 
     fn is_used_at(&self, place: usize) -> bool {
         self.is_used.get(place).copied().unwrap_or(false)
     }
 
-    // Records the uses by one word of the definition at `place`. The word leads to a name or to its first reading.
-    fn take_word(
-        &mut self,
-        alloc: Global,
-        deck: &Deck,
-        place: usize,
-        word: &WordUse<'_>,
-    ) -> Result<(), AllocError> {
+    // Records that the definition at `place` uses the key that a word names, and returns whether there is one.
+    fn take_name(&mut self, deck: &Deck, place: usize, word: &WordUse<'_>) -> bool {
         let (first, second) = match word.kind() {
             WordKind::Plain => (Kind::Unit, Kind::Func),
             WordKind::Call => (Kind::Func, Kind::Unit),
             WordKind::Inverse => (Kind::Func, Kind::Func),
         };
         let text = word.text();
-        if self.take(deck, place, first, text) || self.take(deck, place, second, text) {
-            return Ok(());
-        }
+        self.take(deck, place, first, text) || self.take(deck, place, second, text)
+    }
+
+    // Records the uses by a word that names no key: its first reading counts.
+    fn take_first_reading(
+        &mut self,
+        alloc: Global,
+        deck: &Deck,
+        place: usize,
+        word: &WordUse<'_>,
+    ) -> Result<(), AllocError> {
         if matches!(word.kind(), WordKind::Inverse) {
             return Ok(());
         }
-        let readings = word_readings(alloc, deck, text)?;
-        match readings.as_slice().first() {
-            Some(Reading::Unit(unit)) => {
-                self.take(deck, place, Kind::Unit, unit.as_bytes());
-            }
-            Some(Reading::Prefix(prefix)) => {
-                self.take(deck, place, Kind::Prefix, prefix.as_bytes());
-            }
-            Some(Reading::PrefixedUnit(prefix, unit)) => {
-                self.take(deck, place, Kind::Prefix, prefix.as_bytes());
-                self.take(deck, place, Kind::Unit, unit.as_bytes());
-            }
-            None => {}
+        let readings = word_readings(alloc, deck, word.text())?;
+        if let Some(reading) = readings.as_slice().first() {
+            self.take_reading(deck, place, reading);
         }
         Ok(())
+    }
+
+    fn take_reading(&mut self, deck: &Deck, place: usize, reading: &Reading) {
+        match reading {
+            Reading::Unit(unit) => {
+                self.take(deck, place, Kind::Unit, unit.as_bytes());
+            }
+            Reading::Prefix(prefix) => {
+                self.take(deck, place, Kind::Prefix, prefix.as_bytes());
+            }
+            Reading::PrefixedUnit(prefix, unit) => {
+                self.take(deck, place, Kind::Prefix, prefix.as_bytes());
+                self.take(deck, place, Kind::Unit, unit.as_bytes());
+            }
+        }
     }
 
     // Records that the definition at `place` uses a key, and returns whether the key exists.

@@ -1,4 +1,4 @@
-//! The text of values.
+//! The format of values.
 
 ghost use Rattle.digits_print.specs.Styles.{IsPrintStyle};
 ghost use Rattle.reply.specs.Options.{AreReplyOptionsPrintable};
@@ -21,20 +21,8 @@ pub(crate) fn value_text(
     value.show(alloc, style_of(options, &value.value()))
 }
 
-/// Appends a value in the format that the options select.
-pub(crate) fn put_value(
-    alloc: Global,
-    out: &mut Vec<u8>,
-    options: &Options,
-    value: &Quantity,
-) -> Result<(), AllocError>
-    requires { AreReplyOptionsPrintable options.now }
-{
-    value.put(alloc, out, style_of(options, &value.value()))
-}
-
-// Returns the style of a number. Both styles write a whole number of few digits alike, and the exact one is faster.
-fn style_of(options: &Options, number: &Frac) -> Style
+/// Returns the style of a number. Both styles write a whole number of few digits alike, and the exact one is faster.
+pub(crate) fn style_of(options: &Options, number: &Frac) -> Style
     requires { AreReplyOptionsPrintable options.now }
     ensures { IsPrintStyle result }
 {
