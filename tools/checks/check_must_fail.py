@@ -4,8 +4,10 @@
     tools/checks/check_must_fail.py [--anew] [EDIT..]
 
 EDIT is CRATE/NAME; without it, all edits of tests/must_fail are tried. An edit is applied to a copy of the crate, and
-the prover checks one function of the copy over the libraries that `rt ci` built. tests/must_fail/refused_by.tsv has the
-edit, the function, and the part of the function that has to refuse the edit:
+the prover checks one function of the copy over the libraries that `rt ci` built. A start of the prover costs more than
+most functions, so the edits of the bodies of different functions are tried in one run: no proof depends on another
+function's body. An edit that is not refused as expected there is tried again alone. tests/must_fail/refused_by.tsv has
+the edit, the function, and the part of the function that has to refuse the edit:
 
     ensures, or ensures CLAUSE      a clause on its result
     requires CALLEE [CLAUSE]        a clause that it has to meet when it calls CALLEE
@@ -36,7 +38,7 @@ from dataclasses import dataclass
 from pathlib import Path
 
 sys.path.insert(0, str(Path(__file__).resolve().parent))
-from refusals import Refusal, first_report, read_refusal  # noqa: E402
+from refusals import Refusal, function_at, read_refusal, reports_in  # noqa: E402
 
 ROOT = Path(__file__).resolve().parents[2]
 EDITS = ROOT / "tests/must_fail"
@@ -66,11 +68,24 @@ class Row:
         return self.edit.partition("/")[0]
 
     @property
+    def function_name(self) -> str:
+        return self.function.rpartition("::")[2]
+
+    @property
     def expected(self) -> Refusal:
         """The part belongs to the function, unless it names a file of lemmas."""
         owner, _, lemma = self.part.partition(" ")
         is_file = bool(lemma) and (ROOT / "crates" / self.crate / "proofs" / f"{owner}.antt").exists()
-        return Refusal(owner, lemma) if is_file else Refusal(self.function.rpartition("::")[2], self.part)
+        return Refusal(owner, lemma) if is_file else Refusal(self.function_name, self.part)
+
+
+@dataclass(frozen=True)
+class Replacement:
+    """An `old:` text of an edit, the `new:` text after it, and the file that has it, relative to the crate."""
+
+    file: str
+    old: str
+    new: str
 
 
 def read_rows() -> list[Row]:
@@ -90,20 +105,61 @@ def crates_below(crate: str, libraries: dict[str, list[str]]) -> set[str]:
     return own.union(*(crates_below(name, libraries) for name in own))
 
 
-def apply_edit(edit: str, copy: Path) -> None:
-    """Replaces each `old:` text by the `new:` text after it, in the last named file."""
-    file, old = copy, ""
+def read_edit(edit: str) -> list[Replacement]:
+    """The replacements of an edit, each in the last named file."""
+    file, old, replacements = "", "", []
     for line in (EDITS / f"{edit}.edit").read_text().splitlines():
         word, _, text = line.partition(" ")
         if word == "file:":
-            file = copy / text
+            file = text
         elif word == "old:":
             old = text
         elif word == "new:":
-            source = file.read_text()
-            if not old or source.count(old) != 1:
-                raise BadEdit(f"{file.relative_to(copy)} has {source.count(old)} times: {old.strip()}")
-            file.write_text(source.replace(old, text))
+            replacements.append(Replacement(file, old, text))
+    return replacements
+
+
+def apply_edit(edit: str, copy: Path) -> None:
+    for it in read_edit(edit):
+        source = (copy / it.file).read_text()
+        if not it.old or source.count(it.old) != 1:
+            raise BadEdit(f"{it.file} has {source.count(it.old)} times: {it.old.strip()}")
+        (copy / it.file).write_text(source.replace(it.old, it.new))
+
+
+def is_in_function(row: Row, replacement: Replacement) -> bool:
+    """Whether a replacement changes the body of the function of its row, and nothing else."""
+    path = ROOT / "crates" / row.crate / replacement.file
+    if path.suffix != ".rt" or not path.exists():
+        return False
+    before, found, _ = path.read_text().partition(replacement.old)
+    line = before.rpartition("\n")[2] + replacement.old
+    is_indented = line.startswith(" ")
+    return bool(found) and is_indented and function_at(row.crate, replacement.file, before.count("\n") + 1) == row.function_name
+
+
+def changes_one_body(row: Row) -> bool:
+    is_own = row.expected.owner == row.function_name
+    return is_own and all(is_in_function(row, it) for it in read_edit(row.edit))
+
+
+def runs_of(rows: list[Row]) -> list[list[Row]]:
+    """The rows to be tried together: the edits of one crate that each change the body of another function."""
+    runs: list[list[Row]] = []
+    shared: dict[str, list[list[Row]]] = {}
+    for row in rows:
+        if not changes_one_body(row):
+            runs.append([row])
+            continue
+        others = shared.setdefault(row.crate, [])
+        free = (run for run in others if all(it.function_name != row.function_name for it in run))
+        run = next(free, None)
+        if run is None:
+            run = []
+            others.append(run)
+            runs.append(run)
+        run.append(row)
+    return runs
 
 
 def sources_of(crate: str) -> list[Path]:
@@ -139,44 +195,66 @@ def checksum_of(row: Row, kit: Path, libraries: dict[str, list[str]]) -> str:
     return hashlib.sha256("\n".join(parts).encode()).hexdigest()
 
 
-def words_of(row: Row, kit: Path, libraries: dict[str, list[str]]) -> list[str]:
-    """The command that checks the function of a row."""
-    words = [str(kit / "bin/rattle"), "check", "--crate-name", row.crate, "src/lib.rt", "--only", row.function]
-    for name in ("std", *libraries[row.crate]):
+def words_of(rows: list[Row], kit: Path, libraries: dict[str, list[str]]) -> list[str]:
+    """The command that checks the functions of rows of one crate."""
+    crate = rows[0].crate
+    words = [str(kit / "bin/rattle"), "check", "--crate-name", crate, "src/lib.rt"]
+    for row in rows:
+        words += ["--only", row.function]
+    for name in ("std", *libraries[crate]):
         path = library_of(name) if name in libraries else kit / f"rlibs/{name}.rlib"
         words += ["--extern", f"{name}={path}"]
-    folders = [library_of(name).parent for name in sorted(crates_below(row.crate, libraries))]
+    folders = [library_of(name).parent for name in sorted(crates_below(crate, libraries))]
     for folder in (*folders, kit / "rlibs"):
         words += ["-L", f"dependency={folder}"]
     logic = kit / "rattle/logic/antt-project.json"
     return [*words, "--antt-project", str(logic), "--logic-built", str(kit / "logic_built")]
 
 
-def fault_of(row: Row, kit: Path, libraries: dict[str, list[str]]) -> str | None:
-    """Tries an edit. Returns why it fails the check, or None."""
-    words = words_of(row, kit, libraries)
+def output_of(rows: list[Row], words: list[str]) -> tuple[str, int]:
+    """Applies the edits of rows to a copy of their crate. Returns the output of the prover over it, and its status."""
     with tempfile.TemporaryDirectory() as folder:
         for part in PARTS:
-            shutil.copytree(ROOT / "crates" / row.crate / part, Path(folder, part))
-        try:
+            shutil.copytree(ROOT / "crates" / rows[0].crate / part, Path(folder, part))
+        for row in rows:
             apply_edit(row.edit, Path(folder))
-        except (BadEdit, OSError) as fault:
-            return f"bad edit: {fault}"
-        try:
-            process = subprocess.run(
-                words, cwd=folder, stdin=subprocess.DEVNULL, stdout=subprocess.PIPE, stderr=subprocess.STDOUT,
-                timeout=SECONDS, check=False,
-            )
-        except subprocess.TimeoutExpired:
-            return f"no answer in {SECONDS} seconds"
-    output = process.stdout.decode(errors="replace")
-    if process.returncode == 0:
+        process = subprocess.run(
+            words, cwd=folder, stdin=subprocess.DEVNULL, stdout=subprocess.PIPE, stderr=subprocess.STDOUT,
+            timeout=SECONDS * len(rows), check=False,
+        )
+    return process.stdout.decode(errors="replace"), process.returncode
+
+
+def fault_of(row: Row, kit: Path, libraries: dict[str, list[str]]) -> str | None:
+    """Tries an edit alone. Returns why it fails the check, or None."""
+    words = words_of([row], kit, libraries)
+    try:
+        output, status = output_of([row], words)
+    except (BadEdit, OSError) as fault:
+        return f"bad edit: {fault}"
+    except subprocess.TimeoutExpired:
+        return f"no answer in {SECONDS} seconds"
+    if status == 0:
         return "not refused"
-    report = first_report(output)
+    report = next(iter(reports_in(output)), None)
     refusal = read_refusal(row.crate, report) if report else None
-    if process.returncode != 1 or refusal is None:
-        return f"status {process.returncode}: {report or output[-200:]}"
+    if status != 1 or refusal is None:
+        return f"status {status}: {report or output[-200:]}"
     return None if refusal == row.expected else f"refused by {refusal}, not by {row.expected}"
+
+
+def refused_together(rows: list[Row], kit: Path, libraries: dict[str, list[str]]) -> list[Row]:
+    """Tries edits in one run. Returns those that are refused as expected: by the first report on their function."""
+    words = words_of(rows, kit, libraries)
+    try:
+        output, status = output_of(rows, words)
+    except (BadEdit, OSError, subprocess.TimeoutExpired):
+        return []
+    first: dict[str, Refusal] = {}
+    for report in reports_in(output) if status == 1 else []:
+        if refusal := read_refusal(rows[0].crate, report):
+            first.setdefault(refusal.owner, refusal)
+    return [row for row in rows if first.get(row.function_name) == row.expected]
 
 
 def faults_of_table(rows: list[Row]) -> dict[str, str]:
@@ -197,21 +275,21 @@ def record_pass(file: Path, edit: str) -> None:
 def try_all(rows: list[Row], kit: Path, anew: bool) -> tuple[dict[str, str], dict[str, str]]:
     """Tries edits side by side, but not those that passed before. Returns why edits fail, and why edits are skipped."""
     libraries, faults, skips = read_libraries(), {}, {}
+    caches = {row: CACHE / checksum_of(row, kit, libraries) for row in rows}
 
-    def try_row(row: Row) -> None:
-        passed = CACHE / checksum_of(row, kit, libraries)
-        if passed.exists() and not anew:
-            return
+    def try_run(run: list[Row]) -> None:
         try:
-            if fault := fault_of(row, kit, libraries):
-                faults[row.edit] = fault
-            else:
-                record_pass(passed, row.edit)
+            refused = refused_together(run, kit, libraries) if len(run) > 1 else []
+            for row in run:
+                if row not in refused and (fault := fault_of(row, kit, libraries)):
+                    faults[row.edit] = fault
+                else:
+                    record_pass(caches[row], row.edit)
         except NotTried as reason:
-            skips[row.edit] = str(reason)
+            skips.update({row.edit: str(reason) for row in run})
 
     with ThreadPoolExecutor(os.cpu_count()) as pool:
-        list(pool.map(try_row, rows))
+        list(pool.map(try_run, runs_of([row for row in rows if anew or not caches[row].exists()])))
     return faults, skips
 
 

@@ -67,7 +67,7 @@ def read_refusal(crate: str, report: str) -> Refusal | None:
     return Refusal(owner or owner_of(crate, place[1], int(place[2])), part)
 
 
-def first_report(output: str) -> str | None:
-    """The first line of the prover's output that reports an open goal or an error, or None."""
+def reports_in(output: str) -> list[str]:
+    """The lines of the prover's output that report an open goal or an error."""
     lines = [line for line in output.splitlines() if PLACE.match(line) and not LOST_NAME.match(line)]
-    return next((line for line in lines if ": error" in line or line.startswith("note: ")), None)
+    return [line for line in lines if ": error" in line or line.startswith("note: ")]
