@@ -6,10 +6,11 @@
 Each row is run at three sizes in turns, seven times each. A line for each size has the size, the least processor time
 and the least peak memory; then a line has the exponents between the larger two: 1 is linear, 2 quadratic. The cost of
 the smallest input is subtracted, so that the start of the program does not hide the growth. A row with an easier input
-of the same size has the ratio of the times, which may be at most 2. A row ends in `ok` or `over`, according to its
-bounds. If the time of a row grows faster than its bound and valgrind is installed, the exponent of the instructions
-follows: time also grows when data leaves a cache, and with what else the machine does. By default all rows are run,
-which takes two minutes.
+has the ratio of the times, which may be at most 2, and a row with a bound on its memory has both. A row ends in `ok` or
+`over`, according to its bounds. If the time of a row grows faster than its bound and valgrind is installed, the exponent
+of the instructions follows: time also grows when data leaves a cache, and with what else the machine does. The last row
+counts the instructions of a small conversion by the program that `bin/units` runs. By default all rows are run, which
+takes three minutes.
 """
 
 from __future__ import annotations
@@ -33,6 +34,9 @@ ROOT = Path(__file__).resolve().parent.parent
 LINEAR = 1.2
 MOST_TIMES = 2
 REPEATS = 7
+STARTING_PROGRAM = ROOT / "release/units-x86_64-linux-static"
+MOST_INSTRUCTIONS = 450_000
+START = "start of a conversion"
 
 
 @dataclass(frozen=True)
@@ -50,7 +54,8 @@ class Row:
     """A row: a function that makes the run of a size, the sizes, and the largest exponents allowed.
 
     The cost of a run of the size `base` is subtracted, or that of `start` for the same size if the start grows too. If
-    there is an easier input, the largest size may take at most twice its time.
+    there is an easier input, the largest size may take at most twice its time, less that of `easier_start`. `most_bytes`
+    is the most memory that a size may take beyond the subtracted run.
     """
 
     name: str
@@ -61,6 +66,8 @@ class Row:
     base: int = 1
     start: Callable[[int], Run] | None = None
     easier: Callable[[int], Run] | None = None
+    easier_start: Callable[[int], Run] | None = None
+    most_bytes: Callable[[int], float] | None = None
 
 
 @dataclass(frozen=True)
@@ -98,8 +105,9 @@ def definitions_and_drops(count: int) -> Run:
     return session(*many(":define v_{i}a {i} m\n:drop v_{i}a", count))
 
 
-def locales_after_dead_names(count: int) -> Run:
-    return session(*many(":define v_{i}a 2 m\n:undo", count), *[":locale en_GB", ":locale en_US"] * 500)
+def locales_after_dead_names(names: int, locales: int) -> Run:
+    switches = [":locale en_GB", ":locale en_US"] * (locales // 2)
+    return session(*many(":define v_{i}a 2 m\n:undo", names), *switches)
 
 
 def drops(count: int) -> Run:
@@ -147,6 +155,10 @@ def repeated_set(count: int) -> Run:
 
 def repeated_locale(count: int) -> Run:
     return session(*[":locale en_US"] * count)
+
+
+def bytes_of_text(run: Run) -> int:
+    return len(run.definitions or "") + len(run.input)
 
 
 def environment(count: int) -> Run:
@@ -214,11 +226,29 @@ def random_names(count: int) -> Run:
 
 
 ROWS = [
-    Row("unknown words, more of them", lambda n: unknown_words(n, 60), (1000, 2000, 4000)),
-    Row("unknown words, longer ones", lambda n: unknown_words(1000, n), (60, 120, 240), base=20),
-    Row("define a fault, query it, undo", definitions_and_undos, (4000, 8000, 16000), memory=0.3),
+    Row(
+        "unknown words, more of them",
+        lambda n: unknown_words(n, 60),
+        (1000, 2000, 4000),
+        most_bytes=lambda n: 30 * bytes_of_text(unknown_words(n, 60)),
+    ),
+    Row(
+        "unknown words, longer ones",
+        lambda n: unknown_words(1000, n),
+        (60, 120, 240),
+        base=20,
+        most_bytes=lambda n: 30 * bytes_of_text(unknown_words(1000, n)),
+    ),
+    Row("define a fault, query it, undo", definitions_and_undos, (4000, 8000, 16000), most_bytes=lambda n: 4e6),
     Row("define and drop", definitions_and_drops, (20000, 40000, 80000)),
-    Row("1,000 locales after undone definitions", locales_after_dead_names, (12500, 25000, 50000)),
+    Row(
+        "5,000 locales after undone definitions",
+        lambda n: locales_after_dead_names(n, 5000),
+        (12500, 25000, 50000),
+        start=lambda n: locales_after_dead_names(n, 0),
+        easier=lambda n: locales_after_dead_names(0, 5000),
+        easier_start=lambda n: locales_after_dead_names(0, 0),
+    ),
     Row("drops over a deck of that size", drops, (4000, 8000, 16000)),
     Row("drops in random order", drops_in_random_order, (4000, 8000, 16000)),
     Row("drops of second lines, the last first", drops_of_second_lines, (4000, 8000, 16000)),
@@ -233,10 +263,23 @@ ROWS = [
     Row("check of a faulty chain, backwards", lambda n: Run(("-c",), chain(n, True)), (2000, 4000, 8000)),
     Row("units that conform, over a faulty chain", lambda n: Run(("m", "?"), chain(n, False)), (2000, 4000, 8000)),
     Row("units that conform, over a ring", lambda n: Run(("m", "?"), ring(n)), (1000, 2000, 4000)),
-    Row("check of a ring, memory alone", lambda n: Run(("-c",), ring(n)), (1000, 2000, 4000), time=9.0, base=100),
+    # The output grows with the square of the ring, and so does the time (docs/DECISIONS.md).
+    Row(
+        "check of a ring, memory alone",
+        lambda n: Run(("-c",), ring(n)),
+        (1000, 2000, 4000),
+        time=9.0,
+        start=lambda n: Run(("m", "?"), ring(n)),
+        most_bytes=lambda n: 1e6,
+    ),
     Row("a column with a faulty FROM", column_of_fault, (1000, 2000, 4000)),
-    Row("sets of one variable", repeated_set, (75000, 150000, 300000)),
-    Row("the same locale again", repeated_locale, (75000, 150000, 300000)),
+    Row(
+        "sets of one variable",
+        repeated_set,
+        (75000, 150000, 300000),
+        most_bytes=lambda n: 100 * n + sum(len(str(i)) for i in range(n)),
+    ),
+    Row("the same locale again", repeated_locale, (75000, 150000, 300000), most_bytes=lambda n: 48 * n),
     # The toolchain's call walks from the first variable each time (docs/DECISIONS.md).
     Row("variables of the environment", environment, (8000, 16000, 32000), time=2.2),
     Row("200 edits beside watches", watches, (250, 500, 1000)),
@@ -277,7 +320,7 @@ def instructions_of(program: str, run: Run, folder: Path) -> int:
 def exponent_of_instructions(program: str, row: Row, folder: Path) -> float:
     """The exponent of a row by its instructions. Those of the smallest input are subtracted."""
     base, *counts = (instructions_of(program, row.make(size), folder) for size in (row.base, *row.sizes[1:]))
-    return exponent(counts[0] - base, counts[1] - base)
+    return exponent(counts[0] - base, counts[1] - base, growth_of(row))
 
 
 def least(costs: list[Cost]) -> Cost:
@@ -304,9 +347,24 @@ def cost_of_run(program: str, run: Run, folder: Path) -> Cost:
     return Cost(usage.ru_utime + usage.ru_stime, int(peak.read_text().split()[-1]) * 1024)
 
 
-def exponent(smaller: float, larger: float) -> float:
-    """The exponent of growth between two sizes, the second twice the first."""
-    return math.log2(larger / smaller) if smaller > 0 and larger > 0 else 0.0
+def growth_of(row: Row) -> float:
+    """How many times the larger of two sizes is the smaller, both less the subtracted size."""
+    _, smaller, larger = row.sizes
+    base = row.base if row.start is None else 0
+    return (larger - base) / (smaller - base)
+
+
+def exponent(smaller: float, larger: float, growth: float) -> float:
+    """The exponent of growth between two costs."""
+    return math.log(larger / smaller) / math.log(growth) if smaller > 0 and larger > 0 else 0.0
+
+
+def times_of_easier(program: str, row: Row, seconds: float, folder: Path) -> float:
+    """How many times as long the largest size takes as its easier input, whose start is subtracted."""
+    size = row.sizes[2]
+    [easier] = costs_of(program, row.easier, [size], folder)
+    [start] = costs_of(program, row.easier_start or row.make, [size if row.easier_start else row.base], folder)
+    return seconds / max(easier.seconds - start.seconds, 0.001)
 
 
 def measure(program: str, row: Row, folder: Path) -> bool:
@@ -316,29 +374,39 @@ def measure(program: str, row: Row, folder: Path) -> bool:
     else:
         bases = costs_of(program, row.start, row.sizes, folder)
     costs = costs_of(program, row.make, row.sizes, folder)
-    net = [
-        Cost(max(cost.seconds - base.seconds, 0.001), max(cost.bytes - base.bytes, 100_000))
-        for cost, base in zip(costs, bases)
-    ]
-    time = exponent(net[1].seconds, net[2].seconds)
-    memory = exponent(net[1].bytes, net[2].bytes)
+    seconds = [max(cost.seconds - base.seconds, 0.001) for cost, base in zip(costs, bases)]
+    bytes_beyond = [max(cost.bytes - base.bytes, 100_000) for cost, base in zip(costs, bases)]
+    time = exponent(*seconds[1:], growth_of(row))
+    memory = exponent(*bytes_beyond[1:], growth_of(row))
     # A few milliseconds or megabytes show no exponent.
     is_quick = time <= row.time or costs[2].seconds < 0.03
-    is_small = memory <= row.memory or costs[2].bytes - bases[2].bytes < 4e6
+    is_within = is_quick and (memory <= row.memory or bytes_beyond[2] < 4e6)
     comparison = ""
     if not is_quick and row.start is None and shutil.which("valgrind"):
         comparison = f", instructions {exponent_of_instructions(program, row, folder):.2f}"
-    is_within = is_quick and is_small
+    if row.easier is not None:
+        times = times_of_easier(program, row, seconds[2], folder)
+        is_within = is_within and times <= MOST_TIMES
+        comparison += f", {times:.1f} times the easier input"
+    if row.most_bytes is not None:
+        most = row.most_bytes(row.sizes[2])
+        is_within = is_within and bytes_beyond[2] <= most
+        comparison += f", {bytes_beyond[2] / 1e6:.1f} of at most {most / 1e6:.1f} MB"
     print(f"{row.name}:")
     for size, cost in zip(row.sizes, costs):
         print(f"  {size:>8,}  {cost.seconds:8.3f} s  {cost.bytes / 1e6:8.1f} MB")
-    if row.easier is not None:
-        [easier] = costs_of(program, row.easier, row.sizes[2:], folder)
-        times = net[2].seconds / max(easier.seconds - bases[2].seconds, 0.001)
-        is_within = is_within and times <= MOST_TIMES
-        comparison += f", {times:.1f} times the easier input"
     verdict = "ok" if is_within else "over"
     print(f"  exponents: time {time:.2f}, memory {memory:.2f}{comparison}: {verdict}", flush=True)
+    return is_within
+
+
+def measure_start(program: Path, folder: Path) -> bool:
+    """Prints the instructions of a conversion over the built-in definitions in an environment of usual size."""
+    variables = {f"VARIABLE_{i}": "a value of usual length" for i in range(35)}
+    count = instructions_of(str(program), Run(("10 m", "ft"), variables=variables), folder)
+    is_within = count <= MOST_INSTRUCTIONS
+    verdict = "ok" if is_within else "over"
+    print(f"{START}:\n  {count:,} instructions, at most {MOST_INSTRUCTIONS:,}: {verdict}", flush=True)
     return is_within
 
 
@@ -354,9 +422,14 @@ def main() -> int:
     arguments = parser.parse_args()
     program = arguments.program or built_program()
     resource.setrlimit(resource.RLIMIT_STACK, (8 << 20, resource.RLIM_INFINITY))
-    rows = [row for row in ROWS if not arguments.rows or any(part in row.name for part in arguments.rows)]
+
+    def is_asked_for(name: str) -> bool:
+        return not arguments.rows or any(part in name for part in arguments.rows)
+
     with tempfile.TemporaryDirectory() as folder:
-        results = [measure(program, row, Path(folder)) for row in rows]
+        results = [measure(program, row, Path(folder)) for row in ROWS if is_asked_for(row.name)]
+        if is_asked_for(START) and shutil.which("valgrind"):
+            results.append(measure_start(Path(arguments.program or STARTING_PROGRAM), Path(folder)))
     print(f"{sum(results)} of {len(results)} rows are within their bounds")
     return 0 if all(results) else 1
 

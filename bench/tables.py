@@ -13,6 +13,7 @@ PYTHON_COMPARISON = re.compile(r"(.*?)\s+([\d.]+ s \([\d.]+\)), Python\s+([\d.]+
 LONG_TEXT = re.compile(r"'(.*)'\s+(\d+)\s+MiB\s+([\d.]+ s)\s+(\d+ MiB) of memory, (.*)")
 STARTED = re.compile(r"\s+(.*?)\s\s+([\d.]+ ms) of the processor.*?passed\s+([\d.]+)")
 EXPONENTS = re.compile(r"exponents: time (-?[\d.]+), memory (-?[\d.]+)(.*): (ok|over)")
+INSTRUCTIONS = re.compile(r" +([\d,]+ instructions, at most [\d,]+): (ok|over)")
 
 Row = list[str]
 
@@ -123,6 +124,8 @@ def growth(output: str) -> str:
             size, time, _, memory, unit = last.replace(" s ", " s  ").split()
             numbers = f"{exponents.group(1)}, {exponents.group(2)}{exponents.group(3)}"
             rows.append([label, size, f"{time} s", f"{memory} {unit}", numbers, exponents.group(4)])
+        elif counted := INSTRUCTIONS.fullmatch(line):
+            rows.append([label, "", "", "", counted.group(1), counted.group(2)])
         elif line.startswith(" "):
             last = line
         elif line.endswith(":"):
