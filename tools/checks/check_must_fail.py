@@ -38,21 +38,19 @@ from dataclasses import dataclass
 from pathlib import Path
 
 sys.path.insert(0, str(Path(__file__).resolve().parent))
+from built_libraries import PARTS, NotBuilt, check_command, crates_below, find_kit, read_libraries, sources_of  # noqa: E402
 from refusals import Refusal, function_at, read_refusal, reports_in  # noqa: E402
 
 ROOT = Path(__file__).resolve().parents[2]
 EDITS = ROOT / "tests/must_fail"
-PARTS = ("src", "specs", "proofs")
 SECONDS = 600
+# The files of this check.
+CODE = ("built_libraries.py", "check_must_fail.py", "refusals.py")
 CACHE = Path(os.environ.get("XDG_CACHE_HOME") or Path.home() / ".cache", "units/must_fail")
 
 
 class BadEdit(Exception):
     """An edit that does not fit the sources."""
-
-
-class NotTried(Exception):
-    """An edit for which a library is missing."""
 
 
 @dataclass(frozen=True)
@@ -91,18 +89,6 @@ class Replacement:
 def read_rows() -> list[Row]:
     with open(EDITS / "refused_by.tsv", newline="") as file:
         return [Row(*words) for words in list(csv.reader(file, delimiter="\t", quoting=csv.QUOTE_NONE))[1:]]
-
-
-def read_libraries() -> dict[str, list[str]]:
-    """The libraries that each crate uses, those of the toolchain among them."""
-    lines = ((ROOT / "crates.txt").read_text()).splitlines()
-    heads = (line.partition("#")[0].partition(":") for line in lines)
-    return {head.split()[0]: uses.split() for head, _, uses in heads if head.strip()}
-
-
-def crates_below(crate: str, libraries: dict[str, list[str]]) -> set[str]:
-    own = {name for name in libraries[crate] if name in libraries}
-    return own.union(*(crates_below(name, libraries) for name in own))
 
 
 def read_edit(edit: str) -> list[Replacement]:
@@ -162,19 +148,6 @@ def runs_of(rows: list[Row]) -> list[list[Row]]:
     return runs
 
 
-def sources_of(crate: str) -> list[Path]:
-    folder = ROOT / "crates" / crate
-    return sorted(path for part in PARTS for path in (folder / part).rglob("*") if path.is_file())
-
-
-def library_of(crate: str) -> Path:
-    """The folder of a built library, if it is newer than its sources."""
-    library = ROOT / f"crates/{crate}/out/rlib/{crate}.rlib"
-    if not library.exists() or max(path.stat().st_mtime for path in sources_of(crate)) > library.stat().st_mtime:
-        raise NotTried(f"the library {crate} is not built")
-    return library
-
-
 @functools.lru_cache(maxsize=None)
 def checksum_of_files(folder: Path, *paths: Path) -> str:
     """A checksum of the bytes of files and of their paths in a folder."""
@@ -189,7 +162,7 @@ def checksum_of(row: Row, kit: Path, libraries: dict[str, list[str]]) -> str:
     """A checksum of all that the result of an edit depends on."""
     checks = ROOT / "tools/checks"
     parts = [checksum_of_files(kit, kit / "KIT-ID"), row.edit, row.function, row.part]
-    parts.append(checksum_of_files(ROOT, checks / "check_must_fail.py", checks / "refusals.py", EDITS / f"{row.edit}.edit"))
+    parts.append(checksum_of_files(ROOT, *(checks / name for name in CODE), EDITS / f"{row.edit}.edit"))
     for crate in sorted({row.crate} | crates_below(row.crate, libraries)):
         parts += [crate, *libraries[crate], checksum_of_files(ROOT, *sources_of(crate))]
     return hashlib.sha256("\n".join(parts).encode()).hexdigest()
@@ -197,18 +170,10 @@ def checksum_of(row: Row, kit: Path, libraries: dict[str, list[str]]) -> str:
 
 def words_of(rows: list[Row], kit: Path, libraries: dict[str, list[str]]) -> list[str]:
     """The command that checks the functions of rows of one crate."""
-    crate = rows[0].crate
-    words = [str(kit / "bin/rattle"), "check", "--crate-name", crate, "src/lib.rt"]
+    words = check_command(rows[0].crate, kit, libraries)
     for row in rows:
         words += ["--only", row.function]
-    for name in ("std", *libraries[crate]):
-        path = library_of(name) if name in libraries else kit / f"rlibs/{name}.rlib"
-        words += ["--extern", f"{name}={path}"]
-    folders = [library_of(name).parent for name in sorted(crates_below(crate, libraries))]
-    for folder in (*folders, kit / "rlibs"):
-        words += ["-L", f"dependency={folder}"]
-    logic = kit / "rattle/logic/antt-project.json"
-    return [*words, "--antt-project", str(logic), "--logic-built", str(kit / "logic_built")]
+    return words
 
 
 def output_of(rows: list[Row], words: list[str]) -> tuple[str, int]:
@@ -285,7 +250,7 @@ def try_all(rows: list[Row], kit: Path, anew: bool) -> tuple[dict[str, str], dic
                     faults[row.edit] = fault
                 else:
                     record_pass(caches[row], row.edit)
-        except NotTried as reason:
+        except NotBuilt as reason:
             skips.update({row.edit: str(reason) for row in run})
 
     with ThreadPoolExecutor(os.cpu_count()) as pool:
@@ -303,9 +268,9 @@ def main(names: list[str]) -> int:
     faults = {name: "there is no such edit" for name in names if name not in {row.edit for row in table}}
     faults |= faults_of_table(table)
     rows = [row for row in table if row.edit not in faults and (not names or row.edit in names)]
-    rt = shutil.which("rt")
-    if rt:
-        found, skips = try_all(rows, Path(os.path.realpath(rt)).parent.parent, anew)
+    toolchain = find_kit()
+    if toolchain:
+        found, skips = try_all(rows, toolchain, anew)
         faults |= found
     else:
         skips = {row.edit: "there is no command rt" for row in rows}
