@@ -1,6 +1,6 @@
 //! Names, and the words of expressions.
 
-ghost use Rattle.std.specs.Prelude.{◌≡◌, true};
+ghost use Rattle.std.specs.Prelude.{◌≡◌, ◌∷◌, [], codes, true};
 ghost use Rattle.std.specs.List.{list_all};
 ghost use Rattle.expr_tree.specs.Names as spec;
 
@@ -54,25 +54,29 @@ fn ends_in_count(bytes: &[u8]) -> bool
 pub fn is_refused(bytes: &[u8]) -> bool
     ensures { result ≡ spec.is_refused bytes.now }
 {
+    match bytes {
+        [b'a', base @ ..] => is_trigonometric(base),
+        _ => is_trigonometric(bytes) || is_logarithmic(bytes),
+    }
+}
+
+// Whether the bytes are the name of a trigonometric or hyperbolic function that is not an inverse.
+fn is_trigonometric(bytes: &[u8]) -> bool
+    ensures { result ≡ spec.is_expression_word_among
+        (codes "sin" ∷ codes "cos" ∷ codes "tan" ∷ codes "sinh" ∷ codes "cosh" ∷ codes "tanh" ∷ []) bytes.now }
+{
     matches!(
         bytes,
-        b"sin"
-            | b"cos"
-            | b"tan"
-            | b"asin"
-            | b"acos"
-            | b"atan"
-            | b"sinh"
-            | b"cosh"
-            | b"tanh"
-            | b"asinh"
-            | b"acosh"
-            | b"atanh"
-            | b"ln"
-            | b"log"
-            | b"log2"
-            | b"exp"
+        b"sin" | b"cos" | b"tan" | b"sinh" | b"cosh" | b"tanh"
     )
+}
+
+// Whether the bytes are the name of a logarithm or of the exponential function.
+fn is_logarithmic(bytes: &[u8]) -> bool
+    ensures { result ≡ spec.is_expression_word_among
+        (codes "ln" ∷ codes "log" ∷ codes "log2" ∷ codes "exp" ∷ []) bytes.now }
+{
+    matches!(bytes, b"ln" | b"log" | b"log2" | b"exp")
 }
 
 // Whether a word is a name followed by one digit from 2 to 9.

@@ -19,6 +19,21 @@ pub(crate) fn bar_tree(alloc: Global, top: Numeral, bottom: Numeral) -> Result<T
     Ok(Tree::Bar(Box::new(alloc, Quotient { top, bottom })?))
 }
 
+// Returns the tree in a box.
+pub(crate) fn tree_in_box(alloc: Global, tree: Tree) -> Result<Box<Tree>, AllocError>
+    ensures { IfOk result (λ boxed. boxed.value ≡ tree) }
+{
+    Ok(Box::new(alloc, tree)?)
+}
+
+// Returns the bytes of a word in a box.
+pub(crate) fn word_in_box(alloc: Global, word: &[u8]) -> Result<Box<Text>, AllocError>
+    ensures { IfOk result (λ boxed. boxed.value ≡ word.now) }
+{
+    let text = Text::from_bytes(alloc, word)?;
+    Ok(Box::new(alloc, text)?)
+}
+
 // Whether the word is the binder.
 fn is_binder(binder: Option<&[u8]>, word: &[u8]) -> bool
     ensures { result ≡ grammar.is_binder (option_copied binder.entry) word.now }
@@ -55,9 +70,17 @@ pub(crate) fn scaled_tree(
         (tree.Member (grammar.word_syntax (option_copied binder.entry) word.now) tree.NoMember)) }
 {
     let word = word_tree(alloc, word, binder)?;
+    juxtaposed_tree(alloc, scale, word)
+}
+
+// Returns the juxtaposition of two trees.
+fn juxtaposed_tree(alloc: Global, left: Tree, right: Tree) -> Result<Tree, AllocError>
+    ensures { IfOk result (λ e. syntax e
+        ≡ tree.Juxtaposed (tree.Member (syntax left) (tree.Member (syntax right) tree.NoMember))) }
+{
     let mut members = Trees::new(alloc);
-    members.push(alloc, scale)?;
-    members.push(alloc, word)?;
+    members.push(alloc, left)?;
+    members.push(alloc, right)?;
     Ok(Tree::Juxtaposed(members))
 }
 
@@ -73,34 +96,32 @@ pub(crate) fn call_tree(
     if is_binder(binder, word) {
         return product_with_argument(alloc, operand);
     }
-    let word = Box::new(alloc, Text::from_bytes(alloc, word)?)?;
-    Ok(Tree::Call(word, Box::new(alloc, operand)?))
+    let operand = tree_in_box(alloc, operand)?;
+    Ok(Tree::Call(word_in_box(alloc, word)?, operand))
 }
 
 // Returns the argument times the operand.
 fn product_with_argument(alloc: Global, operand: Tree) -> Result<Tree, AllocError>
     ensures { IfOk result (λ e. syntax e ≡ grammar.argument_times_syntax (syntax operand)) }
 {
-    let mut members = Trees::new(alloc);
-    members.push(alloc, Tree::Argument)?;
-    members.push(alloc, operand)?;
-    Ok(Tree::Group(Box::new(alloc, Tree::Juxtaposed(members))?))
+    let product = juxtaposed_tree(alloc, Tree::Argument, operand)?;
+    Ok(Tree::Group(tree_in_box(alloc, product)?))
 }
 
 // Returns the inverse of a function at its operand.
 pub(crate) fn inverse_tree(alloc: Global, word: &[u8], operand: Tree) -> Result<Tree, AllocError>
     ensures { IfOk result (λ e. syntax e ≡ tree.Inverse word.now (syntax operand)) }
 {
-    let word = Box::new(alloc, Text::from_bytes(alloc, word)?)?;
-    Ok(Tree::Inverse(word, Box::new(alloc, operand)?))
+    let operand = tree_in_box(alloc, operand)?;
+    Ok(Tree::Inverse(word_in_box(alloc, word)?, operand))
 }
 
 // Returns the power of a base and an exponent.
 pub(crate) fn power_tree(alloc: Global, base: Tree, exponent: Tree) -> Result<Tree, AllocError>
     ensures { IfOk result (λ e. syntax e ≡ tree.Power (syntax base) (syntax exponent)) }
 {
-    let base = Box::new(alloc, base)?;
-    Ok(Tree::Power(base, Box::new(alloc, exponent)?))
+    let base = tree_in_box(alloc, base)?;
+    Ok(Tree::Power(base, tree_in_box(alloc, exponent)?))
 }
 
 // Returns the operand with a sign before it.
@@ -109,6 +130,6 @@ pub(crate) fn signed_tree(alloc: Global, sign: Sign, operand: Tree) -> Result<Tr
 {
     match sign {
         Sign::Plus => Ok(operand),
-        Sign::Minus => Ok(Tree::Negate(Box::new(alloc, operand)?)),
+        Sign::Minus => Ok(Tree::Negate(tree_in_box(alloc, operand)?)),
     }
 }
