@@ -1,7 +1,7 @@
 //! Recursive descent over tokens that are already known to fit. Each rule of the grammar has a function, which returns
 //! the tree at a place and the place after it. Calls nest as deep as the tokens do.
 
-ghost use Rattle.std.specs.Prelude.{◌≡◌, ◌+◌, ◌<◌, ◌≤◌, ◌∷◌, true, IfOk, IfSome, Some, map};
+ghost use Rattle.std.specs.Prelude.{◌≡◌, ◌+◌, ◌<◌, ◌≤◌, ◌∷◌, [], true, IfOk, IfSome, Some, map};
 ghost use Rattle.std.specs.Option.{option_copied};
 ghost use Rattle.expr_tree.specs.Front.{AtomTreeAt, ExponentTreeAt, IsSumInParens, IsTreeReadAt, JuxtapositionTreeAt};
 ghost use Rattle.expr_tree.specs.Front.{PowerTreeAt, ProductTreeAt, SumTreeAt, tokens_begin_operand, tokens_from};
@@ -16,7 +16,8 @@ use crate::operator::{Scale, Sign};
 use crate::token::Token;
 use crate::tree::{Factors, Terms, Tree, Trees};
 use crate::tree_building::{
-    bar_tree, call_tree, inverse_tree, power_tree, scaled_tree, signed_tree, word_tree,
+    bar_tree, call_tree, fraction_word_tree, group_tree, inverse_tree, power_tree,
+    raised_word_tree, root_tree, scaled_tree, signed_tree, word_tree,
 };
 use std::alloc::{AllocError, Global};
 
@@ -47,25 +48,35 @@ fn usual_tree(
         (λ e. tree_of_token_list (option_copied binder.entry) (map token_view tokens.now) ≡ Some (syntax e))) }
 {
     match tokens {
-        [only] => match only {
-            Token::Word(word) => Ok(Some(word_tree(alloc, word, binder)?)),
-            Token::Numeral(n) => Ok(Some(Tree::Number(*n))),
-            _ => Ok(None),
-        },
+        [only] => tree_of_one(alloc, only, binder),
         [scale, last] => match (scale, last) {
             (Token::Numeral(n), Token::Word(word)) => {
-                let scale = Tree::Number(*n);
-                Ok(Some(scaled_tree(alloc, scale, word, binder)?))
+                Ok(Some(scaled_tree(alloc, Tree::Number(*n), word, binder)?))
             }
             _ => Ok(None),
         },
         [top, bar, bottom, last] => match (top, bar, bottom, last) {
             (Token::Numeral(n), Token::Bar, Token::Numeral(d), Token::Word(word)) => {
-                let scale = bar_tree(alloc, *n, *d)?;
-                Ok(Some(scaled_tree(alloc, scale, word, binder)?))
+                Ok(Some(fraction_word_tree(alloc, *n, *d, word, binder)?))
             }
             _ => Ok(None),
         },
+        _ => Ok(None),
+    }
+}
+
+// Returns the tree of a word or a numeral, or `None` for any other token.
+fn tree_of_one(
+    alloc: Global,
+    token: &Token,
+    binder: Option<&[u8]>,
+) -> Result<Option<Tree>, AllocError>
+    ensures { IfOk result (λ found. IfSome found
+        (λ e. tree_of_token_list (option_copied binder.entry) (token_view token.now ∷ []) ≡ Some (syntax e))) }
+{
+    match token {
+        Token::Word(word) => Ok(Some(word_tree(alloc, word, binder)?)),
+        Token::Numeral(n) => Ok(Some(Tree::Number(*n))),
         _ => Ok(None),
     }
 }
@@ -243,9 +254,8 @@ fn atom_at(
         },
         Token::Word(word) => Ok((word_tree(alloc, word, binder)?, at + 1)),
         Token::WordWithPower(word, digit) => {
-            let base = word_tree(alloc, word, binder)?;
-            let power = Tree::Number(digit.numeral());
-            Ok((power_tree(alloc, base, power)?, at + 1))
+            let tree = raised_word_tree(alloc, word, digit.numeral(), binder)?;
+            Ok((tree, at + 1))
         }
         Token::Head(word) => {
             let (operand, next) = closed_sum_at(alloc, tokens, at + 1, opened, binder)?;
@@ -254,11 +264,11 @@ fn atom_at(
         Token::Tilde => inverse_at(alloc, tokens, at + 1, opened, binder),
         Token::Root(kind) => {
             let (radicand, next) = closed_sum_at(alloc, tokens, at + 2, opened, binder)?;
-            Ok((Tree::Root(kind, Box::new(alloc, radicand)?), next))
+            Ok((root_tree(alloc, kind, radicand)?, next))
         }
         Token::Open => {
             let (sum, next) = closed_sum_at(alloc, tokens, at + 1, opened, binder)?;
-            Ok((Tree::Group(Box::new(alloc, sum)?), next))
+            Ok((group_tree(alloc, sum)?, next))
         }
         _ => unreachable!(),
     }

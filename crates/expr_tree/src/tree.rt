@@ -91,11 +91,7 @@ impl Trees {
         ensures ok { OnOk result (syntax_of_trees self.new ≡ syntax_of_trees self.old ++ syntax item ∷ []) }
         ensures err { OnErr result (syntax_of_trees self.new ≡ syntax_of_trees self.old) }
     {
-        if self.items.is_empty() {
-            self.items.reserve_exact(USUAL_MEMBERS)?;
-        }
-        self.items.push(item)?;
-        Ok(())
+        push_member(&mut self.items, item)
     }
 
     /// Returns the number of trees.
@@ -135,11 +131,7 @@ impl Factors {
         ensures ok { OnOk result (syntax_of_factors self.new ≡ syntax_of_factors self.old ++ factor_syntax item ∷ []) }
         ensures err { OnErr result (syntax_of_factors self.new ≡ syntax_of_factors self.old) }
     {
-        if self.items.is_empty() {
-            self.items.reserve_exact(USUAL_MEMBERS)?;
-        }
-        self.items.push(item)?;
-        Ok(())
+        push_member(&mut self.items, item)
     }
 
     /// Returns the number of members.
@@ -179,11 +171,7 @@ impl Terms {
         ensures ok { OnOk result (syntax_of_terms self.new ≡ syntax_of_terms self.old ++ term_syntax item ∷ []) }
         ensures err { OnErr result (syntax_of_terms self.new ≡ syntax_of_terms self.old) }
     {
-        if self.items.is_empty() {
-            self.items.reserve_exact(USUAL_MEMBERS)?;
-        }
-        self.items.push(item)?;
-        Ok(())
+        push_member(&mut self.items, item)
     }
 
     /// Returns the number of members.
@@ -206,4 +194,16 @@ impl Terms {
     {
         self.items.get(i)
     }
+}
+
+// Appends a member. The first one reserves room for the usual number of members. If that fails, the list is unchanged.
+fn push_member<T: Drop>(items: &mut Vec<T>, item: T) -> Result<(), AllocError>
+    ensures ok { OnOk result (items.new.items ≡ items.old.items ++ item ∷ []) }
+    ensures err { OnErr result (items.new.items ≡ items.old.items) }
+{
+    if items.is_empty() {
+        items.reserve_exact(USUAL_MEMBERS)?;
+    }
+    items.push(item)?;
+    Ok(())
 }

@@ -6,7 +6,7 @@ ghost use Rattle.expr_tree.specs.Grammar as grammar;
 ghost use Rattle.expr_tree.specs.Syntax as tree;
 ghost use Rattle.expr_tree.specs.Trees.{syntax};
 
-use crate::operator::Sign;
+use crate::operator::{RootKind, Sign};
 use crate::tree::{Quotient, Tree, Trees};
 use frac128::Numeral;
 use std::alloc::{AllocError, Global};
@@ -58,6 +58,22 @@ pub(crate) fn word_tree(
     Ok(Tree::Word(Text::from_bytes(alloc, word)?))
 }
 
+// Returns the juxtaposition of a fraction and a word.
+pub(crate) fn fraction_word_tree(
+    alloc: Global,
+    top: Numeral,
+    bottom: Numeral,
+    word: &[u8],
+    binder: Option<&[u8]>,
+) -> Result<Tree, AllocError>
+    ensures { IfOk result (λ e. syntax e
+        ≡ grammar.juxtaposition_syntax (tree.Bar top bottom)
+        (tree.Member (grammar.word_syntax (option_copied binder.entry) word.now) tree.NoMember)) }
+{
+    let scale = bar_tree(alloc, top, bottom)?;
+    scaled_tree(alloc, scale, word, binder)
+}
+
 // Returns the juxtaposition of a tree and a word.
 pub(crate) fn scaled_tree(
     alloc: Global,
@@ -105,7 +121,7 @@ fn product_with_argument(alloc: Global, operand: Tree) -> Result<Tree, AllocErro
     ensures { IfOk result (λ e. syntax e ≡ grammar.argument_times_syntax (syntax operand)) }
 {
     let product = juxtaposed_tree(alloc, Tree::Argument, operand)?;
-    Ok(Tree::Group(tree_in_box(alloc, product)?))
+    group_tree(alloc, product)
 }
 
 // Returns the inverse of a function at its operand.
@@ -122,6 +138,34 @@ pub(crate) fn power_tree(alloc: Global, base: Tree, exponent: Tree) -> Result<Tr
 {
     let base = tree_in_box(alloc, base)?;
     Ok(Tree::Power(base, tree_in_box(alloc, exponent)?))
+}
+
+// Returns the power of a word and a numeral.
+pub(crate) fn raised_word_tree(
+    alloc: Global,
+    word: &[u8],
+    exponent: Numeral,
+    binder: Option<&[u8]>,
+) -> Result<Tree, AllocError>
+    ensures { IfOk result (λ e. syntax e
+        ≡ tree.Power (grammar.word_syntax (option_copied binder.entry) word.now) (tree.Number exponent)) }
+{
+    let base = word_tree(alloc, word, binder)?;
+    power_tree(alloc, base, Tree::Number(exponent))
+}
+
+// Returns the root of a radicand.
+pub(crate) fn root_tree(alloc: Global, kind: RootKind, radicand: Tree) -> Result<Tree, AllocError>
+    ensures { IfOk result (λ e. syntax e ≡ tree.Root kind (syntax radicand)) }
+{
+    Ok(Tree::Root(kind, tree_in_box(alloc, radicand)?))
+}
+
+// Returns an expression in parentheses.
+pub(crate) fn group_tree(alloc: Global, sum: Tree) -> Result<Tree, AllocError>
+    ensures { IfOk result (λ e. syntax e ≡ tree.Group (syntax sum)) }
+{
+    Ok(Tree::Group(tree_in_box(alloc, sum)?))
 }
 
 // Returns the operand with a sign before it.

@@ -4,26 +4,26 @@ ghost use Rattle.std.specs.Prelude.{◌≡◌, IfOk};
 ghost use Rattle.expr_tree.specs.Trees.{syntax, syntax_of_factors, syntax_of_terms, syntax_of_trees};
 
 use crate::tree::{Factors, Terms, Tree, Trees};
+use crate::tree_building::{bar_tree, tree_in_box, word_in_box};
 use std::alloc::{AllocError, Global};
 
 impl Tree {
     /// Returns an equal tree. Fails only if out of memory.
     #[cycle(copy)]
-    #[tactic(auto, using(crate::proofs::Says::says))]
     pub fn copy(&self, alloc: Global) -> Result<Tree, AllocError>
         ensures { IfOk result (λ tree. syntax tree ≡ syntax self.now) }
     {
         match self {
             Tree::Number(x) => Ok(Tree::Number(*x)),
-            Tree::Bar(quotient) => Ok(Tree::Bar(Box::new(alloc, **quotient)?)),
+            Tree::Bar(quotient) => bar_tree(alloc, quotient.top, quotient.bottom),
             Tree::Word(word) => Ok(Tree::Word(word.copy(alloc)?)),
             Tree::Argument => Ok(Tree::Argument),
             Tree::Call(word, operand) => {
-                let word = Box::new(alloc, word.copy(alloc)?)?;
+                let word = word_in_box(alloc, word.as_bytes())?;
                 Ok(Tree::Call(word, operand.copy_in_box(alloc)?))
             }
             Tree::Inverse(word, operand) => {
-                let word = Box::new(alloc, word.copy(alloc)?)?;
+                let word = word_in_box(alloc, word.as_bytes())?;
                 Ok(Tree::Inverse(word, operand.copy_in_box(alloc)?))
             }
             Tree::Root(kind, operand) => Ok(Tree::Root(*kind, operand.copy_in_box(alloc)?)),
@@ -45,7 +45,7 @@ impl Tree {
         ensures { IfOk result (λ tree. syntax tree.value ≡ syntax self.now) }
     {
         let tree = self.copy(alloc)?;
-        Ok(Box::new(alloc, tree)?)
+        tree_in_box(alloc, tree)
     }
 }
 

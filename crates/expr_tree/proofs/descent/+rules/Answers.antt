@@ -3,6 +3,7 @@ use Rattle.std.proofs.Common.{Option, List, [], ◌++◌, refl, sym, ap, subst, 
 use Rattle.std.specs.Option.{option_copied}
 use Rattle.std.specs.declared.alloc.AllocError.{AllocError}
 use Rattle.expr_tree.specs.Front.{SumTreeAt, PowerTreeAt, ExponentTreeAt, tokens_from}
+use Rattle.expr_tree.specs.Grammar.{word_syntax}
 use Rattle.expr_tree.specs.TokenViews.{power_token_numeral}
 use Rattle.expr_tree.specs.Syntax as tree
 use Rattle.expr_tree.specs.Tokens.{Tilde}
@@ -24,8 +25,7 @@ use Rattle.expr_tree.proofs.Steps.{one_parsed_member, first_parsed_member, next_
 use Rattle.expr_tree.proofs.Steps.{one_parsed_factor, first_parsed_factor, next_parsed_factor, all_parsed_factors}
 use Rattle.expr_tree.proofs.Steps.{parsed_factor_wants_operand, one_parsed_term, first_parsed_term, next_parsed_term}
 use Rattle.expr_tree.proofs.Steps.{all_parsed_terms, parsed_term_wants_operand}
-use Rattle.expr_tree.proofs.Views.{syntax_of_number, syntax_of_root, syntax_of_group, syntax_of_juxtaposed}
-use Rattle.expr_tree.proofs.Views.{syntax_of_product, syntax_of_sum}
+use Rattle.expr_tree.proofs.Views.{syntax_of_number, syntax_of_juxtaposed, syntax_of_product, syntax_of_sum}
 use Rattle.expr_tree.proofs.descent.+rules.Goals as goal
 
 -- the result of a power, as the result of an exponent
@@ -82,16 +82,16 @@ atom_at-returns-in_ok-word_tree-in-Word t c =
       omega (arith, l),
     )
 
-pub atom_at-returns-in_ok-power_tree-in-WordWithPower : goal.atom_at-returns-in_ok-power_tree-in-WordWithPower
-atom_at-returns-in_ok-power_tree-in-WordWithPower t c =
+pub atom_at-returns-in_ok-tree-in-WordWithPower : goal.atom_at-returns-in_ok-tree-in-WordWithPower
+atom_at-returns-in_ok-tree-in-WordWithPower t c =
     let l = operand_has_token c.args.tokens.now c.args.at c.requires.begun in (
       word_power_token_is_atom (option_copied c.args.binder) c.args.opened c.in-WordWithPower.word.now
           (power_token_numeral c.in-WordWithPower.digit) _ _ _ _
           (read_token_at_place c.args.tokens.now c.args.at _ _ l c.in-WordWithPower.is) c.requires.fit
-          c.in_ok-base-in-WordWithPower.ensures
-          (c.in_ok-power_tree-in-WordWithPower.ensures
-          ∙ ap (tree.Power (syntax c.in_ok-base-in-WordWithPower.base))
-          (syntax_of_number _ ∙ ap tree.Number c.numeral.ensures)),
+          refl
+          (c.in_ok-tree-in-WordWithPower.ensures
+          ∙ ap (λ n. tree.Power (word_syntax (option_copied c.args.binder) c.in-WordWithPower.word.now) (tree.Number n))
+          c.numeral.ensures),
       omega arith,
       omega (arith, l),
     )
@@ -107,26 +107,23 @@ atom_at-returns-in_ok-call_tree-in-Head t c = (
   c.in_ok-operand-in-Head.ensures.2,
 )
 
-pub atom_at-returns-in_ok-new-in-Root : goal.atom_at-returns-in_ok-new-in-Root
-atom_at-returns-in_ok-new-in-Root t c =
+pub atom_at-returns-in_ok-root_tree-in-Root : goal.atom_at-returns-in_ok-root_tree-in-Root
+atom_at-returns-in_ok-root_tree-in-Root t c =
     let r = root_tokens_at_place c.args.tokens.now c.args.at c.args.opened c.in-Root.kind _
     (operand_has_token c.args.tokens.now c.args.at c.requires.begun) c.in-Root.is c.requires.fit in (
       root_tokens_are_atom (option_copied c.args.binder) c.args.opened c.in-Root.kind _ _ _ _ _ r.is
-          c.in_ok-radicand-in-Root.ensures.0
-          (syntax_of_root c.in-Root.kind c.in_ok-new-in-Root.field-0
-          ∙ ap (λ x. tree.Root c.in-Root.kind (syntax x)) c.in_ok-new-in-Root.ensures.ok),
+          c.in_ok-radicand-in-Root.ensures.0 c.in_ok-root_tree-in-Root.ensures,
       omega (arith, c.in_ok-radicand-in-Root.ensures.1),
       c.in_ok-radicand-in-Root.ensures.2,
     )
 
-pub atom_at-returns-in_ok-new-in-Open : goal.atom_at-returns-in_ok-new-in-Open
-atom_at-returns-in_ok-new-in-Open t c = (
+pub atom_at-returns-in_ok-group_tree-in-Open : goal.atom_at-returns-in_ok-group_tree-in-Open
+atom_at-returns-in_ok-group_tree-in-Open t c = (
   group_tokens_are_atom (option_copied c.args.binder) c.args.opened _ _ _ _ _
       (read_token_at_place c.args.tokens.now c.args.at _ _
       (operand_has_token c.args.tokens.now c.args.at c.requires.begun)
       c.in-Open.is)
-      c.in_ok-sum-in-Open.ensures.0
-      (syntax_of_group c.in_ok-new-in-Open.field-0 ∙ ap (λ x. tree.Group (syntax x)) c.in_ok-new-in-Open.ensures.ok),
+      c.in_ok-sum-in-Open.ensures.0 c.in_ok-group_tree-in-Open.ensures,
   omega (arith, c.in_ok-sum-in-Open.ensures.1),
   c.in_ok-sum-in-Open.ensures.2,
 )

@@ -1,20 +1,9 @@
-use Rattle.std.proofs.Common.{ap}
+use Rattle.std.proofs.Common.{ap, refl}
 use Rattle.std.specs.Option.{option_copied}
 use Rattle.expr_tree.specs.TokenViews.{token_view}
-use Rattle.expr_tree.proofs.Usual.{tree_of_one_word_list, tree_of_one_numeral_list, tree_of_scaled_word_list}
-use Rattle.expr_tree.proofs.Usual.{tree_of_fraction_word_list}
+use Rattle.expr_tree.proofs.Usual.{tree_of_scaled_word_list, tree_of_fraction_word_list}
 use Rattle.expr_tree.proofs.Views.{syntax_of_number}
 use Rattle.expr_tree.proofs.descent.usual_tree.Goals as goal
-
-pub returns-in_ok-word_tree-in-Word : goal.returns-in_ok-word_tree-in-Word
-returns-in_ok-word_tree-in-Word c =
-    tree_of_one_word_list (option_copied c.args.binder) c.args.tokens.now _ c.in-Word.word.now _ c.in-len1.len_at_least
-    c.in-len1.len_below c.only-item.is (ap token_view c.in-Word.is) c.in_ok-word_tree-in-Word.ensures
-
-pub returns-in-Numeral : goal.returns-in-Numeral
-returns-in-Numeral c =
-    tree_of_one_numeral_list (option_copied c.args.binder) c.args.tokens.now _ c.in-Numeral.n _ c.in-len1.len_at_least
-    c.in-len1.len_below c.only-item.is (ap token_view c.in-Numeral.is) (syntax_of_number c.in-Numeral.n)
 
 pub returns-in_ok-scaled_tree-in-Numeral-Word : goal.returns-in_ok-scaled_tree-in-Numeral-Word
 returns-in_ok-scaled_tree-in-Numeral-Word c =
@@ -24,12 +13,11 @@ returns-in_ok-scaled_tree-in-Numeral-Word c =
     (ap token_view c.in-Numeral-Word.is-1) (syntax_of_number c.in-Numeral-Word.n)
     c.in_ok-scaled_tree-in-Numeral-Word.ensures
 
-pub returns-in_ok-scaled_tree-in-Numeral-Bar-Numeral-Word :
-    goal.returns-in_ok-scaled_tree-in-Numeral-Bar-Numeral-Word
-returns-in_ok-scaled_tree-in-Numeral-Bar-Numeral-Word c =
+pub returns-in_ok-fraction_word_tree-in-Numeral-Bar-Numeral-Word :
+    goal.returns-in_ok-fraction_word_tree-in-Numeral-Bar-Numeral-Word
+returns-in_ok-fraction_word_tree-in-Numeral-Bar-Numeral-Word c =
     let a = c.in-Numeral-Bar-Numeral-Word in
     tree_of_fraction_word_list (option_copied c.args.binder) c.args.tokens.now _ _ _ _ a.n a.d a.word.now _ _
     c.in-len4.len_at_least c.in-len4.len_below c.top-item.is c.bar-item.is c.bottom-item.is
     c.last-item-then-tokens-lt5.is (ap token_view a.is-0) (ap token_view a.is-1) (ap token_view a.is-2)
-    (ap token_view a.is-3)
-    c.in_ok-scale-in-Numeral-Bar-Numeral-Word.ensures c.in_ok-scaled_tree-in-Numeral-Bar-Numeral-Word.ensures
+    (ap token_view a.is-3) refl c.in_ok-fraction_word_tree-in-Numeral-Bar-Numeral-Word.ensures
