@@ -12,7 +12,7 @@ use Rattle.expr_tree.specs.Grammar.{sign_token, sum, sum_tree, atom, word_syntax
 use Rattle.expr_tree.specs.Rules.{WantsOperand, EndsOperand, EndsNumeral, tokens_fit}
 use Rattle.expr_tree.specs.Syntax.{Syntax}
 use Rattle.expr_tree.specs.Syntax as tree
-use Rattle.expr_tree.specs.Tokens.{Token, Numeral, Word, WordWithPower, Head, Root, Plus, Minus, Bar}
+use Rattle.expr_tree.specs.Tokens.{Token, Numeral, Word, WordWithPower, Head, Root, Bar}
 use Rattle.expr_tree.specs.Tokens.{Caret, Tilde, Open, Close}
 use Rattle.expr_tree.proofs.Fits.{no_bar_token_after_operand}
 use Rattle.expr_tree.specs.declared.operator.RootKind.{RootKind}
