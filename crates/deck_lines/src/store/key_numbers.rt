@@ -14,12 +14,23 @@ use std::alloc::{AllocError, Global};
 use units_io::HashSeed;
 
 /// Numbered keys, one table for each kind.
-#[derive(Drop)]
 pub(crate) struct KeyNumbers {
     pub units: NameSet,
     pub prefixes: NameSet,
     pub functions: NameSet,
     pub lists: NameSet,
+}
+
+// Written by hand, so that code that drops the tables need not prove anything about their fields.
+impl Drop for KeyNumbers {
+    fn drop(self) {
+        let KeyNumbers {
+            units: _,
+            prefixes: _,
+            functions: _,
+            lists: _,
+        } = self;
+    }
 }
 
 impl KeyNumbers {

@@ -101,6 +101,13 @@ fn room_for(
 {
     lines.reserve(put)?;
     marks.reserve(put)?;
+    empty_vectors(alloc, put, cut)
+}
+
+// Returns empty vectors with room for `put` lines that are inserted and `cut` lines that are replaced.
+fn empty_vectors(alloc: Global, put: usize, cut: usize) -> Result<ExchangeRoom, AllocError>
+    ensures { IfOk result (HasStoreExchangeRoom put cut) }
+{
     Ok(ExchangeRoom {
         put_lines: Vec::with_capacity(alloc, put)?,
         put_marks: Vec::with_capacity(alloc, put)?,

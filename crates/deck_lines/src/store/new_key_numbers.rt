@@ -1,9 +1,12 @@
 //! New numbers for the keys that lines define.
 
-ghost use Rattle.std.specs.Prelude.{◌≡◌, Some, length, option_map, IfOk, OnOk};
-ghost use Rattle.deck_lines.specs.Names.{key_number_names_of_kind, key_numbered};
+ghost use Rattle.std.specs.Prelude.{◌≡◌, [], Some, length, map, option_map, IfOk, OnOk};
+ghost use Rattle.deck_lines.specs.Loads.{key_numbers_by_definitions};
+ghost use Rattle.deck_lines.specs.Names.{AreKeyNumbersOneToOne, key_number_names_of_kind, key_numbered};
+ghost use Rattle.deck_lines.specs.Names.{no_key_number_names};
 ghost use Rattle.deck_lines.specs.NumberedKeys.{key_number_names_in};
-ghost use Rattle.deck_lines.specs.Renumberings.{IsKeyRenumbering, key_number_names_after};
+ghost use Rattle.deck_lines.specs.Readings.{entry_in_store_line};
+ghost use Rattle.deck_lines.specs.Renumberings.{AreKeyNumbersOfLines, IsKeyRenumbering, key_number_names_after};
 ghost use Rattle.deck_lines.specs.Stores.{key_numbers_by_definition, store_definition_at};
 
 use super::key_numbers::KeyNumbers;
@@ -27,12 +30,9 @@ impl Renumbering {
     pub fn of_store(alloc: Global, store: &LineStore) -> Result<Renumbering, AllocError>
         ensures { IfOk result (λ r. IsKeyRenumbering store.now.lines r) }
     {
-        let mut keys = KeyNumbers::new(alloc, store.table_seed());
         let mut of_lines = Vec::with_capacity(alloc, store.len())?;
-        for place in 0..store.len() {
-            let number = number_line(alloc, store, &mut keys, place)?;
-            of_lines.push(number)?;
-        }
+        let mut keys = KeyNumbers::new(alloc, store.table_seed());
+        number_lines(alloc, store, &mut keys, &mut of_lines)?;
         Ok(Renumbering { keys, of_lines })
     }
 
@@ -42,6 +42,28 @@ impl Renumbering {
     {
         self.keys.count(kind)
     }
+}
+
+// Numbers the keys that the lines define, and lists the number of each line.
+fn number_lines(
+    alloc: Global,
+    store: &LineStore,
+    keys: &mut KeyNumbers,
+    of_lines: &mut Vec<Option<KeyNumber>>,
+) -> Result<(), AllocError>
+    requires no_names { key_number_names_in keys.old ≡ no_key_number_names }
+    requires no_numbers { of_lines.old.items ≡ [] }
+    ensures names { OnOk result (key_number_names_in keys.new
+        ≡ key_numbers_by_definitions no_key_number_names store.now.lines) }
+    ensures each { OnOk result (AreKeyNumbersOfLines (key_number_names_in keys.new) of_lines.new.items
+        (map entry_in_store_line store.now.lines)) }
+    ensures unique { OnOk result (AreKeyNumbersOneToOne (key_number_names_in keys.new)) }
+{
+    for place in 0..store.len() {
+        let number = number_line(alloc, store, keys, place)?;
+        of_lines.push(number)?;
+    }
+    Ok(())
 }
 
 // Gives the next number of its kind to the key that a line defines, unless it has a number, and returns its number, or

@@ -1,13 +1,12 @@
-use Rattle.std.proofs.Common.{◌<◌, List, arith, ap, length, map, subst, ◌∙◌}
+use Rattle.std.proofs.Common.{◌<◌, arith, ap, length, map, subst, ◌∙◌}
 use Rattle.std.proofs.lemmas.List.{take_all}
 use Rattle.deck_lines.specs.Loads.{key_numbers_by_definitions}
 use Rattle.deck_lines.specs.Names.{no_key_number_names}
 use Rattle.deck_lines.specs.NumberedKeys.{key_number_names_in}
 use Rattle.deck_lines.specs.Readings.{entry_in_store_line}
 use Rattle.deck_lines.specs.Renumberings.{AreKeyNumbersOfLines}
-use Rattle.deck_lines.specs.declared.line.DeckLine.{DeckLine}
 use Rattle.deck_lines.proofs.RenumberedKeys.{names_more, numbers_more, unique_more}
-use Rattle.deck_lines.proofs.store.new_key_numbers.Renumbering.of_store.Goals as goal
+use Rattle.deck_lines.proofs.store.new_key_numbers.number_lines.Goals as goal
 
 pub loop-place-preserved : goal.loop-place-preserved
 loop-place-preserved c =
@@ -24,16 +23,17 @@ loop-place-preserved c =
       unique = unique_more was now lines i inside c.in_ok-number.ensures.names c.loop-place.invariant.unique;
     }
 
-pub returns : goal.returns
-returns c =
-    let lines : List DeckLine = c.args.store.now.lines in
-    let all = take_all c.loop-place.place lines
-    (omega (arith, c.loop-place-test.false, c.len-place-end.ensures.count)) in
-    record {
-      names = c.loop-place.invariant.names ∙ ap (key_numbers_by_definitions no_key_number_names) all;
-      definition_numbers =
-          subst (λ ls. AreKeyNumbersOfLines (key_number_names_in c.loop-place.keys) c.loop-place.of_lines.items
-          (map entry_in_store_line ls)) all
-          c.loop-place.invariant.each;
-      unique = c.loop-place.invariant.unique;
-    }
+pub returns-clause-names : goal.returns-clause-names
+returns-clause-names c =
+    c.loop-place.invariant.names
+    ∙ ap (key_numbers_by_definitions no_key_number_names)
+    (take_all c.loop-place.place c.args.store.now.lines
+    (omega (arith, c.loop-place-test.false, c.len-place-end.ensures.count)))
+
+pub returns-clause-each : goal.returns-clause-each
+returns-clause-each c =
+    subst (λ ls. AreKeyNumbersOfLines (key_number_names_in c.loop-place.keys) c.loop-place.of_lines.items
+    (map entry_in_store_line ls))
+    (take_all c.loop-place.place c.args.store.now.lines
+    (omega (arith, c.loop-place-test.false, c.len-place-end.ensures.count)))
+    c.loop-place.invariant.each

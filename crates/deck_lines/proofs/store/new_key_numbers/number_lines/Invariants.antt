@@ -4,7 +4,7 @@ use Rattle.deck_lines.specs.Names.{AreKeyNumbersOneToOne, no_key_number_names}
 use Rattle.deck_lines.specs.NumberedKeys.{key_number_names_in}
 use Rattle.deck_lines.specs.Readings.{entry_in_store_line}
 use Rattle.deck_lines.specs.Renumberings.{AreKeyNumbersOfLines}
-use Rattle.deck_lines.proofs.store.new_key_numbers.Renumbering.of_store.Given as goal
+use Rattle.deck_lines.proofs.store.new_key_numbers.number_lines.Given as goal
 
 abbrev pub invariant-loop-place : goal.invariant-loop-place
 invariant-loop-place l = record {
