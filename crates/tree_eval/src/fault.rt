@@ -4,6 +4,7 @@ ghost use Rattle.std.specs.Prelude.{◌≡◌, IfOk};
 ghost use Rattle.tree_eval.specs.Refusals.{IsEvalFault, IsEvalStepFault};
 
 use crate::kept_fault::KeptFault;
+use crate::refusal::Refusal;
 use frac128::FracFault;
 use quantity::{Quantity, QuantityFault};
 use std::alloc::{AllocError, Global};
@@ -55,23 +56,28 @@ impl ValueFault {
     {
         match self {
             ValueFault::Number(fault) => Ok(ValueFault::Number(*fault)),
-            ValueFault::NotConformable(x, y) => {
-                let x = x.copy(alloc)?;
-                let y = y.copy(alloc)?;
-                Ok(ValueFault::NotConformable(x, y))
-            }
+            ValueFault::NotConformable(x, y) => copy_unlike(alloc, x, y),
             ValueFault::ExponentNotNumber => Ok(ValueFault::ExponentNotNumber),
             ValueFault::ExponentRange => Ok(ValueFault::ExponentRange),
-            ValueFault::NotInDomain(name) => Ok(ValueFault::NotInDomain(name.copy(alloc)?)),
-            ValueFault::NotInRange(name) => Ok(ValueFault::NotInRange(name.copy(alloc)?)),
-            ValueFault::WrongArgument(name) => Ok(ValueFault::WrongArgument(name.copy(alloc)?)),
-            ValueFault::WrongResult(name) => Ok(ValueFault::WrongResult(name.copy(alloc)?)),
-            ValueFault::NoInverse(name) => Ok(ValueFault::NoInverse(name.copy(alloc)?)),
-            ValueFault::OutsideTable(name) => Ok(ValueFault::OutsideTable(name.copy(alloc)?)),
-            ValueFault::NeedsArgument(name) => Ok(ValueFault::NeedsArgument(name.copy(alloc)?)),
-            ValueFault::CallsTooDeep(name) => Ok(ValueFault::CallsTooDeep(name.copy(alloc)?)),
+            ValueFault::NotInDomain(name) => Refusal::NotInDomain.copy_fault(alloc, name),
+            ValueFault::NotInRange(name) => Refusal::NotInRange.copy_fault(alloc, name),
+            ValueFault::WrongArgument(name) => Refusal::WrongArgument.copy_fault(alloc, name),
+            ValueFault::WrongResult(name) => Refusal::WrongResult.copy_fault(alloc, name),
+            ValueFault::NoInverse(name) => Refusal::NoInverse.copy_fault(alloc, name),
+            ValueFault::OutsideTable(name) => Refusal::OutsideTable.copy_fault(alloc, name),
+            ValueFault::NeedsArgument(name) => Refusal::NeedsArgument.copy_fault(alloc, name),
+            ValueFault::CallsTooDeep(name) => Refusal::CallsTooDeep.copy_fault(alloc, name),
         }
     }
+}
+
+// Returns the fault of two quantities that do not conform, with copies of both.
+fn copy_unlike(alloc: Global, x: &Quantity, y: &Quantity) -> Result<ValueFault, AllocError>
+    ensures { IfOk result (λ fault. fault ≡ ValueFault.NotConformable x.now y.now) }
+{
+    let x = x.copy(alloc)?;
+    let y = y.copy(alloc)?;
+    Ok(ValueFault::NotConformable(x, y))
 }
 
 impl From<AllocError> for EvalFault {

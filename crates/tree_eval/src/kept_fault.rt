@@ -29,10 +29,8 @@ impl KeptFault {
     pub fn new(alloc: Global, fault: ValueFault) -> Result<KeptFault, AllocError>
         ensures { IfOk result (λ kept. kept ≡ fault) }
     {
-        match Box::new(alloc, fault) {
-            Ok(fault) => Ok(KeptFault { fault }),
-            Err(_) => Err(AllocError),
-        }
+        let fault = Box::new(alloc, fault)?;
+        Ok(KeptFault { fault })
     }
 
     /// Returns the fault.

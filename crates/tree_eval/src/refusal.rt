@@ -1,10 +1,10 @@
 //! The reasons for which a function refuses.
 
-ghost use Rattle.std.specs.Prelude.{◌≡◌};
+ghost use Rattle.std.specs.Prelude.{◌≡◌, IfOk};
 ghost use Rattle.tree_eval.specs.Refusals as spec;
 
 use crate::fault::{EvalFault, ValueFault};
-use std::alloc::Global;
+use std::alloc::{AllocError, Global};
 use units_io::Text;
 
 /// Why a function refuses an argument or a result, or cannot be called.
@@ -32,6 +32,14 @@ impl Refusal {
         }
     }
 
+    // Returns the fault with a copy of the name of the function. The only error is lack of memory.
+    pub(crate) fn copy_fault(self, alloc: Global, name: &Text) -> Result<ValueFault, AllocError>
+        ensures { IfOk result (λ fault. fault ≡ spec.eval_refusal_fault self name.now) }
+    {
+        Ok(self.with_name(name.copy(alloc)?))
+    }
+
+    // Returns the fault with this name.
     fn with_name(self, name: Text) -> ValueFault
         ensures { result ≡ spec.eval_refusal_fault self name }
     {
