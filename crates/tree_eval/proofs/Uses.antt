@@ -1,7 +1,7 @@
 -- A word with its operand, by the reported meaning of the word.
 use Rattle.std.proofs.Common.{◌≡◌, ◌<◌, ◌+◌, ◌*◌, ◌∷◌, ℕ, suc, List, Bool, Option, Result, Some, length}
 use Rattle.std.proofs.Common.{refl, sym, ap, ◌∙◌, subst, arith}
-use Rattle.std.specs.Prelude.{slice_get}
+use Rattle.std.specs.Prelude.{IsTrue, slice_get}
 use Rattle.expr_tree.specs.declared.word_list.WordUse.{WordUse}
 use Rattle.expr_tree.specs.Syntax as tree
 use Rattle.expr_tree.specs.Syntax.{Syntax}
@@ -19,9 +19,10 @@ use Rattle.tree_eval.specs.Expansions.{Callable, EvalMeaning, Expanded}
 use Rattle.tree_eval.specs.Expansion.{called_eval_word, expand, inverted_eval_word}
 use Rattle.tree_eval.specs.WordValues.{IsUsableEvalMeaning}
 use Rattle.tree_eval.specs.Value.{value}
+use Rattle.tree_eval.proofs.Alone.{eval_word_at_place}
 use Rattle.tree_eval.proofs.Calls.{reported_eval_meaning_is_usable}
 use Rattle.tree_eval.proofs.Places.{first_eval_word_at_run, first_eval_word_within, rest_eval_words_at_run}
-use Rattle.tree_eval.proofs.Weight.{weight, weight_callable, weight_told}
+use Rattle.tree_eval.proofs.Weight.{weight, weight_callable, weight_of_use, weight_told}
 
 -- a word with its operand is heavier than its reported meaning with the operand
 operand_use_weight : (direction : Direction) (has : ℕ → Bool) (callee : ℕ → Callable) (m : EvalMeaning) (t : Told)
@@ -78,46 +79,77 @@ module _ (direction : Direction) (us : List WordUse) (p : ℕ) {e : Syntax} (w :
   both_stand : IsEvalWordRun us p (word_of direction w ∷ words_in x)
   both_stand = subst (IsEvalWordRun us p) (ap words_in is ∙ words_of_operand_use direction w x) here
 
-  -- the place is within the words
-  pub use_within : p < length us
-  use_within = first_eval_word_within us p (word_of direction w) (words_in x) both_stand
-
-  -- the meaning that is reported for the place
-  module _ (means : WordUse → EvalMeaning) (has : ℕ → Bool) (callee : ℕ → Callable) (t : Told)
-      (told : (u : WordUse) → slice_get us p ≡ Some u → IsReportedEvalMeaning has callee (means u) t) where
-    -- the meaning that is reported for the place is that of the word
-    use_told : IsReportedEvalMeaning has callee (means (word_of direction w)) t
-    use_told = told (word_of direction w) (first_eval_word_at_run us p (word_of direction w) (words_in x) both_stand)
+  module _ (means : WordUse → EvalMeaning) where
+    -- the word of the tree is the one at the place
+    word_at : slice_get us p ≡ Some (word_of direction w)
+    word_at = first_eval_word_at_run us p (word_of direction w) (words_in x) both_stand
 
     -- the expansion of the tree is the word operated on its operand
     use_expands : expand means e ≡ operand_expansion direction (means (word_of direction w)) (expand means x)
     use_expands = ap (expand means) is ∙ expansion_of_operand_use direction means w x
 
-    -- a call with the operand is permitted at a place: the word is usable, the words of the operand are there, and it
-    -- is lighter
-    pub record IsOperandAt (q : ℕ) : Type 0 where
-      pub can : IsUsableEvalMeaning has t
-      pub lighter : 8 * (weight_told callee t + weight (expand means x)) + 5 < 8 * weight (expand means e) + 2
-      pub stand : IsEvalWordRun us q (words_in x)
+    -- a call with the operand is permitted: the word is within the words, those of the operand are after it, and the
+    -- two are lighter
+    pub record IsUseAtRun : Type 0 where
+      pub within : p < length us
+      pub lighter : 8 * weight_of_use means direction (slice_get us p) (expand means x) + 1
+          < 8 * weight (expand means e) + 2
+      pub stand : IsEvalWordRun us (p + 1) (words_in x)
 
-    -- a call with the operand is permitted at the next place
-    pub use_operand : {q : ℕ} → q ≡ p + 1 → IsOperandAt q
-    use_operand n =
-        let v : weight (expand means e) ≡ weight
-        (operand_expansion direction (means (word_of direction w)) (expand means x)) =
-        ap weight use_expands in
-        let l = operand_use_weight direction has callee (means (word_of direction w)) t (expand means x) use_told in
+    -- a call with the operand is permitted at the place
+    pub use_at_run : IsUseAtRun
+    use_at_run =
+        let v : weight_of_use means direction (slice_get us p) (expand means x) ≡ weight (expand means e) =
+        ap (λ o. weight_of_use means direction o (expand means x)) word_at ∙ sym (ap weight use_expands) in
         record {
-          can = reported_eval_meaning_is_usable has callee (means (word_of direction w)) t use_told;
-          lighter = omega (arith, v, l);
-          stand = subst (λ k. IsEvalWordRun us k (words_in x)) (sym n)
-              (rest_eval_words_at_run us p (word_of direction w) (words_in x) both_stand);
+          within = first_eval_word_within us p (word_of direction w) (words_in x) both_stand;
+          lighter = omega (arith, v);
+          stand = rest_eval_words_at_run us p (word_of direction w) (words_in x) both_stand;
         }
 
-    -- a result for each word with this reported meaning is a result for the tree
+    -- a result for the word at the place with the operand is a result for the tree
     pub use_gives : (a : Option Amount) {A : Type 0} (seen : A → Amount) (r : Result A EvalFault)
-        → ((m : EvalMeaning) → IsReportedEvalMeaning has callee m t
-        → GivesValueOrFault seen r (value (operand_expansion direction m (expand means x)) a))
+        → ((u : WordUse) → slice_get us p ≡ Some u
+        → GivesValueOrFault seen r (value (operand_expansion direction (means u) (expand means x)) a))
         → GivesValueOrFault seen r (value (expand means e) a)
     use_gives a seen r h =
-        subst (λ y. GivesValueOrFault seen r (value y a)) (sym use_expands) (h (means (word_of direction w)) use_told)
+        subst (λ y. GivesValueOrFault seen r (value y a)) (sym use_expands) (h (word_of direction w) word_at)
+
+-- the words of the operand are at the place that a call has reached after the word
+pub operand_stands : (us : List WordUse) (p q : ℕ) (ws : List WordUse) → IsEvalWordRun us (p + 1) ws → q ≡ p + 1
+    → IsEvalWordRun us q ws
+operand_stands us p q ws here n = subst (λ k. IsEvalWordRun us k ws) (sym n) here
+
+-- the word at a place, with the meaning that is reported for it
+module _ (us : List WordUse) (p : ℕ) (within : p < length us) (means : WordUse → EvalMeaning) (has : ℕ → Bool)
+    (callee : ℕ → Callable) (t : Told)
+    (report : (u : WordUse) → slice_get us p ≡ Some u → IsReportedEvalMeaning has callee (means u) t) where
+  -- the reported meaning is usable
+  pub use_is_usable : IsUsableEvalMeaning has t
+  use_is_usable =
+      let s = eval_word_at_place us p within in
+      reported_eval_meaning_is_usable has callee (means s.0) t (report s.0 s.1)
+
+  -- the number of a reported function is that of one
+  pub use_has_function : {id : ℕ} → t ≡ told.Function id → IsTrue (has id)
+  use_has_function is = subst (IsUsableEvalMeaning has) is use_is_usable
+
+  module _ (direction : Direction) (y : Expanded) where
+    -- the word with an operand is heavier than its reported meaning with the operand
+    use_weight : weight_told callee t + weight y < weight_of_use means direction (slice_get us p) y
+    use_weight =
+        let s = eval_word_at_place us p within in
+        subst (λ o. weight_told callee t + weight y < weight_of_use means direction o y) (sym s.1)
+        (operand_use_weight direction has callee (means s.0) t y (report s.0 s.1))
+
+    -- the operand is lighter, also as a member of a chain
+    pub operand_lighter : 8 * weight y + 3 < 8 * weight_of_use means direction (slice_get us p) y + 1
+    operand_lighter = let w = use_weight in omega (arith, w)
+
+    -- the function is lighter
+    pub function_lighter : {id : ℕ} → t ≡ told.Function id
+        → 8 * weight_callable (callee id) + 4 < 8 * weight_of_use means direction (slice_get us p) y + 1
+    function_lighter {id} is =
+        let w = use_weight in
+        let v : weight_told callee t ≡ weight_callable (callee id) = ap (weight_told callee) is in
+        omega (arith, w, v)

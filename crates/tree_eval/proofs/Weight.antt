@@ -1,10 +1,15 @@
 -- The size of an expansion.
-use Rattle.std.proofs.Common.{ℕ, suc, ◌+◌}
+use Rattle.std.proofs.Common.{ℕ, suc, ◌+◌, Option, Some, None}
+use Rattle.expr_tree.specs.declared.word_list.WordUse.{WordUse}
+use Rattle.tree_eval.specs.declared.direction.Direction.{Direction}
 use Rattle.tree_eval.specs.declared.meaning.Meaning.{Meaning as Told}
 use Rattle.tree_eval.specs.declared.meaning.Meaning.TheVariants as told
 use Rattle.tree_eval.specs.Expansions.{Expanded, Number, Bar, Argument, Primitive, Dimensionless, Named, Prefixed}
 use Rattle.tree_eval.specs.Expansions.{Uncalled, Applied, Unapplied, Root, Group, Negated, Power, Chain}
-use Rattle.tree_eval.specs.Expansions.{Links, NoLink, Link, Callable, Function, Alias, Table, Given, Absent, Present}
+use Rattle.tree_eval.specs.Directions.{operand_expansion}
+use Rattle.tree_eval.specs.Expansions.{EvalMeaning, Links, NoLink, Link, Callable, Function, Alias, Table, Given}
+use Rattle.tree_eval.specs.Expansions.{Absent}
+use Rattle.tree_eval.specs.Expansions.{Present}
 
 abbrev mutual
   pub weight : Expanded → ℕ
@@ -37,6 +42,11 @@ abbrev mutual
   pub weight_given : Given → ℕ
   weight_given Absent = 0
   weight_given (Present x) = weight x
+
+-- the weight of a word with its operand, or 0 if there is no word
+abbrev pub weight_of_use : (WordUse → EvalMeaning) → Direction → Option WordUse → Expanded → ℕ
+weight_of_use means direction (Some u) y = weight (operand_expansion direction (means u) y)
+weight_of_use means direction None y = 0
 
 -- the weight of the reported function, or 0 for a name
 abbrev pub weight_told : (ℕ → Callable) → Told → ℕ

@@ -13,6 +13,7 @@ use Rattle.tree_eval.specs.Environment.{IsReportedEvalMeaning}
 use Rattle.tree_eval.specs.Expansions.{Callable, Expanded, EvalMeaning, Callee, Chain, Link, NoLink}
 use Rattle.tree_eval.specs.Directions.{direction_value, operand_expansion}
 use Rattle.tree_eval.specs.Expansion.{eval_meaning_expansion}
+use Rattle.tree_eval.specs.Operands.{value_with_operand}
 use Rattle.units_io.specs.Outcomes.{◌>>=◌}
 use Rattle.tree_eval.specs.Steps.{ValueOrFault, operand_step_value, value_of_quantity_step}
 use Rattle.tree_eval.specs.WordValues.{reported_word_value}
@@ -98,14 +99,6 @@ module _ (w r s : ValueOrFault) (is : w ≡ times r s) where
     times_behind : w ≡ (s >>= (λ u. value_of_quantity_step (quantity_product p u)))
     times_behind = is ∙ ap (λ x. times x s) k
 
-    times_second : (e : EvalFault) → GivesValueOrFault amount_of_held_value (Err e) s
-        → GivesValueOrFault amount_of_held_value (Err e) w
-    times_second e h = first_eval_step_fault amount_of_held_value amount_of_held_value e s
-        (λ u. value_of_quantity_step (quantity_product p u)) w times_behind h
-
-    times_both : {u : Amount} → s ≡ Ok u → w ≡ value_of_quantity_step (quantity_product p u)
-    times_both l = times_behind ∙ ap (λ x. x >>= (λ u. value_of_quantity_step (quantity_product p u))) l
-
 -- a word that is not a function, with an operand
 module _ (direction : Direction) (has : ℕ → Bool) (callee : ℕ → Callable) (m : EvalMeaning) {t : Told} (y : Expanded)
     (a : Option Amount) (h : IsReportedEvalMeaning has callee m t) (n : (id : ℕ) → t ≡ told.Function id → ⊥) where
@@ -122,18 +115,12 @@ module _ (direction : Direction) (has : ℕ → Bool) (callee : ℕ → Callable
       → GivesValueOrFault amount_of_held_value (Err e) whole
   word_fault e k = times_first whole (reported_word_value callee t) (value y a) is_product e k
 
-  module _ {p : Amount} (k : reported_word_value callee t ≡ Ok p) where
-    -- if the word has a value, the fault of the operand is that of the whole
-    pub behind_fault : (e : EvalFault)
-        → GivesValueOrFault amount_of_held_value (Err e) (value y a) → GivesValueOrFault amount_of_held_value
-        (Err e) whole
-    behind_fault e l = times_second whole (reported_word_value callee t) (value y a) is_product k e l
-
-    -- a result for the product is a result for the whole
-    pub both_give : {u : Amount} → value y a ≡ Ok u → {A : Type 0} (f : A → Amount) (r : Result A EvalFault)
-        → GivesValueOrFault f r (value_of_quantity_step (quantity_product p u)) → GivesValueOrFault f r whole
-    both_give l f r j =
-        eval_result_of_equal_values f r (times_both whole (reported_word_value callee t) (value y a) is_product k l) j
+  -- if the word has a value, a result for its product with the operand is a result for the whole
+  pub product_gives : {p : Amount} → reported_word_value callee t ≡ Ok p → {A : Type 0} (f : A → Amount)
+      (r : Result A EvalFault)
+      → GivesValueOrFault f r (value_with_operand Multiply p (value y a)) → GivesValueOrFault f r whole
+  product_gives k f r j =
+      eval_result_of_equal_values f r (times_behind whole (reported_word_value callee t) (value y a) is_product k) j
 
 -- a function with its operand
 module _ (direction : Direction) (has : ℕ → Bool) (callee : ℕ → Callable) (m : EvalMeaning) {t : Told} (y : Expanded)

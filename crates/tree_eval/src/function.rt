@@ -13,7 +13,6 @@ ghost use Rattle.tree_eval.specs.Expansions as expanded;
 ghost use Rattle.tree_eval.specs.Expansion.{expand_if};
 ghost use Rattle.tree_eval.specs.Value as spec;
 
-use crate::answer::number_answer;
 use crate::direction::Direction;
 use crate::end::End;
 use crate::env::Env;
@@ -24,7 +23,7 @@ use crate::meaning::Meaning;
 use crate::refusal::Refusal;
 use crate::scope::evaluate_holder;
 use crate::step::Step;
-use crate::table::looked_up;
+use crate::table::{looked_up, number_in_unit};
 use def_entry::{FunctionDef, TableDef, What};
 use quantity::Quantity;
 use std::alloc::Global;
@@ -209,10 +208,7 @@ fn unapply_table<E: Env>(
     let name = env.function_name(id);
     let holder = Holder::Of(id, Part::TableUnit);
     let unit = evaluate_holder(alloc, env, holder, &table.unit, None)?;
-    if !value.conforms(unit.get()) {
-        return Err(Refusal::WrongArgument.by(alloc, name));
-    }
-    let y = number_answer(alloc, value.value().div(&unit.get().value()))?;
+    let y = number_in_unit(alloc, name, unit.get(), value)?;
     looked_up(alloc, name, table.points.back(&y.value()))
 }
 

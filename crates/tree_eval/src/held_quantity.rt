@@ -2,8 +2,8 @@
 
 ghost use Rattle.std.specs.Prelude.{◌≡◌, IfOk, Ok, option_map};
 ghost use Rattle.std.specs.Option.{option_copied};
-ghost use Rattle.tree_eval.specs.Answers.{GivesValueOrFault, amount_of_held_value};
-ghost use Rattle.tree_eval.specs.Steps.{negative_value, value_one};
+ghost use Rattle.tree_eval.specs.Answers.{GivesValueOrFault, IsEvalResult, amount_of_held_value};
+ghost use Rattle.tree_eval.specs.Steps.{ValueOrFault, negative_value, value_one};
 
 use crate::fault::EvalFault;
 use quantity::Quantity;
@@ -30,6 +30,18 @@ impl<'a> Held<'a> {
         ensures { result ≡ self.old }
     {
         mem::replace(self, Held::unity(alloc))
+    }
+
+    // Stores the quantity of a result in place of this one.
+    pub(crate) fn store_value(
+        &mut self,
+        worth: Result<Quantity, EvalFault>,
+    ) -> Result<(), EvalFault>
+        ensures { (expected : ValueOrFault) → IsEvalResult worth expected
+            → GivesValueOrFault (λ _. amount_of_held_value self.new) result expected }
+    {
+        *self = Held::Own(worth?);
+        Ok(())
     }
 
     // Negates the quantity in place.

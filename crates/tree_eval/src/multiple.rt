@@ -87,8 +87,7 @@ pub(crate) fn put_multiple<'a, E: Env>(
         (reported_word_value (E.callee env.now) meaning.entry)) }
 {
     let number = number_answer(alloc, factor.value())?;
-    *held = Held::Own(multiple(alloc, env, number, meaning)?);
-    Ok(())
+    held.store_value(multiple(alloc, env, number, meaning))
 }
 
 // Returns a number times a single word. The value of a name is used without a copy.

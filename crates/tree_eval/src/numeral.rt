@@ -17,8 +17,7 @@ pub(crate) fn put_numeral(alloc: Global, x: &Numeral, held: &mut Held<'_>) -> Re
     ensures { GivesValueOrFault (λ _. amount_of_held_value held.new) result
         (spec.value_of_number (fraction_of_decimal x.now)) }
 {
-    *held = Held::Own(number_answer(alloc, x.value())?);
-    Ok(())
+    held.store_value(number_answer(alloc, x.value()))
 }
 
 // Stores the quotient of two numerals.
@@ -32,8 +31,7 @@ pub(crate) fn put_bar(
     ensures { GivesValueOrFault (λ _. amount_of_held_value held.new) result
         (spec.value_of_number (spec.numeral_quotient_value x.now y.now)) }
 {
-    *held = Held::Own(number_answer(alloc, quotient(x, y))?);
-    Ok(())
+    held.store_value(number_answer(alloc, quotient(x, y)))
 }
 
 // Returns the quotient of two numerals as a fraction.

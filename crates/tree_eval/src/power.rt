@@ -23,8 +23,7 @@ pub(crate) fn take_power(
         (spec.value_of_quantity_step (quantity_power (amount_of_held_value held.old) exponent.now)) }
 {
     let base = held.take(alloc);
-    *held = Held::Own(power(alloc, base, exponent)?);
-    Ok(())
+    held.store_value(power(alloc, base, exponent))
 }
 
 // Replaces the held quantity by its root of the given kind.
@@ -34,8 +33,7 @@ pub(crate) fn take_root(alloc: Global, kind: RootKind, held: &mut Held<'_>) -> R
         (spec.root_value kind (amount_of_held_value held.old)) }
 {
     let base = held.take(alloc);
-    *held = Held::Own(root(alloc, kind, base)?);
-    Ok(())
+    held.store_value(root(alloc, kind, base))
 }
 
 // Returns a power. It reuses the names of its base.

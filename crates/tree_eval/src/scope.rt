@@ -14,7 +14,6 @@ ghost use Rattle.tree_eval.specs.Expansions as expanded;
 ghost use Rattle.tree_eval.specs.Expansion.{eval_meaning_expansion, expand};
 ghost use Rattle.tree_eval.specs.Operands.{chain, operand_by_side, operands_with_steps, value_with_operand};
 ghost use Rattle.tree_eval.specs.Operands.{words_of_operands};
-ghost use Rattle.tree_eval.specs.WordValues.{IsUsableEvalMeaning};
 ghost use Rattle.tree_eval.specs.Value as spec;
 
 use crate::direction::Direction;
@@ -107,14 +106,13 @@ impl<'a, E: Env> Scope<'a, E> {
                 Ok(())
             }
             Tree::Word(_) => self.word(place, held),
-            Tree::Call(_, operand) => {
-                let meaning = self.next_meaning(place)?;
-                self.evaluate_operand(Direction::Forward, meaning, operand, place, held)
-            }
-            Tree::Inverse(_, operand) => {
-                let meaning = self.next_meaning(place)?;
-                self.evaluate_operand(Direction::Inverse, meaning, operand, place, held)
-            }
+            Tree::Call(_, operand) => self.evaluate_use(Direction::Forward, operand, place, held),
+            Tree::Inverse(_, operand) => self.evaluate_use(
+                Direction::Inverse,
+                operand,
+                place,
+                held,
+            ),
             Tree::Group(operand) => self.evaluate(operand, place, held),
             Tree::Root(kind, operand) => self.root(*kind, operand, place, held),
             Tree::Negate(operand) => self.evaluate_negative(operand, place, held),
@@ -231,35 +229,36 @@ impl<'a, E: Env> Scope<'a, E> {
         Ok(meaning)
     }
 
-    // Evaluates a word and the operand after it, with or without a `~` before the word.
+    // Evaluates the word at `place` and the operand after it, with or without a `~` before the word.
     #[cycle(eval)]
     #[inline(never)]
-    fn evaluate_operand(
+    fn evaluate_use(
         &self,
         direction: Direction,
-        meaning: Meaning<'a>,
         operand: &Tree,
         place: &mut usize,
         held: &mut Held<'a>,
     ) -> Result<(), EvalFault>
-        requires usable { IsUsableEvalMeaning (E.has self.now.env.now) meaning }
-        requires stand { IsEvalWordRun (E.words self.now.env.now self.now.holder) place.old
+        requires within { place.old < length (E.words self.now.env.now self.now.holder) }
+        requires stand { IsEvalWordRun (E.words self.now.env.now self.now.holder) (place.old + 1)
             (words_in (syntax operand.now)) }
-        ensures worth { (m : expanded.EvalMeaning)
-            → IsReportedEvalMeaning (E.has self.now.env.now) (E.callee self.now.env.now) m meaning.entry
-            → GivesValueOrFault (λ _. amount_of_held_value held.new) result (spec.value
-            (operand_expansion direction m (expand (E.means self.now.env.now) (syntax operand.now)))
+        ensures worth { (u : WordUse) → slice_get (E.words self.now.env.now self.now.holder) place.old ≡ Some u
+            → GivesValueOrFault (λ _. amount_of_held_value held.new) result (spec.value (operand_expansion direction
+            (E.means self.now.env.now u) (expand (E.means self.now.env.now) (syntax operand.now)))
             (option_copied self.now.arg)) }
-        ensures place { OnOk result (place.new ≡ place.old + length (words_in (syntax operand.now))) }
+        ensures place { OnOk result (place.new ≡ place.old + 1 + length (words_in (syntax operand.now))) }
     {
+        let meaning = self.next_meaning(place)?;
         if let Meaning::Function(id) = meaning {
             self.evaluate(operand, place, held)?;
             return put_taken(self.alloc, self.env, direction, id, held);
         }
         put_word(self.alloc, self.env, meaning, held)?;
-        let mut behind = Held::unity(self.alloc);
-        self.evaluate(operand, place, &mut behind)?;
-        Step::Multiply.take_lent(self.alloc, held, behind.get())
+        let factor = Operand {
+            step: Step::Multiply,
+            tree: operand,
+        };
+        self.with_worth(factor, place, held)
     }
 
     // Evaluates operands side by side.
@@ -387,6 +386,6 @@ fn put_taken<E: Env>(
     ensures { GivesValueOrFault (λ _. amount_of_held_value held.new) result
         (direction_value direction (E.callee env.now id) (amount_of_held_value held.old)) }
 {
-    *held = Held::Own(take(alloc, env, direction, id, held.get())?);
-    Ok(())
+    let worth = take(alloc, env, direction, id, held.get());
+    held.store_value(worth)
 }

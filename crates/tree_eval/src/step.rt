@@ -63,22 +63,6 @@ impl Step {
         amount_answer(alloc, self.join_owned(alloc, left, right))
     }
 
-    // Combines the running value with one more member in place.
-    #[inline(never)]
-    pub(crate) fn take_lent(
-        self,
-        alloc: Global,
-        held: &mut Held<'_>,
-        right: &Quantity,
-    ) -> Result<(), EvalFault>
-        ensures { GivesValueOrFault (λ _. amount_of_held_value held.new) result
-            (spec.operand_step_value self (amount_of_held_value held.old) right.now) }
-    {
-        let left = held.take(alloc);
-        *held = Held::Own(self.join(alloc, left, right)?);
-        Ok(())
-    }
-
     // Combines the running value with one more member in place. The result reuses the names of an owned factor if it
     // can.
     #[inline(never)]
@@ -92,8 +76,7 @@ impl Step {
             (spec.operand_step_value self (amount_of_held_value held.old) (amount_of_held_value right.old)) }
     {
         let left = held.take(alloc);
-        *held = Held::Own(self.join_held(alloc, left, right.take(alloc))?);
-        Ok(())
+        held.store_value(self.join_held(alloc, left, right.take(alloc)))
     }
 
     // Combines the running value with a numeral in place.
@@ -110,8 +93,7 @@ impl Step {
     {
         let right = fraction_answer(alloc, right.value())?;
         let left = held.take(alloc);
-        *held = Held::Own(self.join_number(alloc, left, &right)?);
-        Ok(())
+        held.store_value(self.join_number(alloc, left, &right))
     }
 
     // Returns the running value combined with one more member. The result reuses the names of an owned factor if it

@@ -65,8 +65,7 @@ pub(crate) fn take_word<'a, E: Env>(
         (spec.reported_word_value (E.callee env.now) meaning.entry)) }
 {
     let left = held.take(alloc);
-    *held = Held::Own(join_word(alloc, env, left, step, meaning)?);
-    Ok(())
+    held.store_value(join_word(alloc, env, left, step, meaning))
 }
 
 // Returns the running value combined with a single word. The value of a name is used without a copy.

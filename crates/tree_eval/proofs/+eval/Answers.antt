@@ -4,6 +4,7 @@ use Rattle.std.proofs.lemmas.Result.{err_from_is_err_and}
 use Rattle.def_entry.specs.Views.{entry_definition_view}
 use Rattle.expr_tree.specs.Syntax as tree
 use Rattle.expr_tree.specs.Trees.{syntax}
+use Rattle.tree_eval.specs.Expansion.{expand}
 use Rattle.tree_eval.specs.declared.direction.Direction.TheVariants.{Forward, Inverse}
 use Rattle.tree_eval.proofs.Alone.{alone_gives, alone_within, member_gives}
 use Rattle.tree_eval.proofs.Arms.{base_lighter, base_stands, chain_ends, chain_gives, chain_lighter, chain_stands}
@@ -13,8 +14,10 @@ use Rattle.tree_eval.proofs.Chains.{member_fault, member_lighter, member_stand}
 use Rattle.tree_eval.proofs.MemberChains.{juxtaposed_is, product_is, sum_is}
 use Rattle.tree_eval.proofs.Multiples.{multiple_gives, multiple_place, multiple_usable, multiple_within}
 use Rattle.tree_eval.proofs.Targets.{alias_eval_word_is_callable}
-use Rattle.tree_eval.proofs.Uses.{use_gives, use_operand, use_within}
-use Rattle.tree_eval.proofs.Words.{behind_fault, both_give, operand_fault, taken_give, word_fault}
+use Rattle.tree_eval.proofs.Uses.{function_lighter, operand_lighter, operand_stands, use_at_run, use_gives}
+use Rattle.tree_eval.proofs.Uses.{use_has_function}
+use Rattle.tree_eval.proofs.Uses.{use_is_usable}
+use Rattle.tree_eval.proofs.Words.{operand_fault, product_gives, taken_give, word_fault}
 use Rattle.tree_eval.proofs.+eval.Goals as goal
 
 pub scope::Scope::evaluate-word-requires : goal.scope::Scope::evaluate-word-requires
@@ -26,54 +29,40 @@ scope::Scope::evaluate-returns-in-Word-clause-worth g t c =
     alone_gives _ _ (ap syntax c.in-Word.is ∙ c.view_law.ensures.word c.in-Word.field-0) c.requires
     (g.E.Env.means c.args.self.now.env.now) _ _ _ c.word.ensures.worth
 
-pub scope::Scope::evaluate-next_meaning-requires : goal.scope::Scope::evaluate-next_meaning-requires
-scope::Scope::evaluate-next_meaning-requires g t c =
-    use_within Forward _ _ _ _ (ap syntax c.in-Call.is ∙ c.view_law.ensures.call c.in-Call.field-0 c.in-Call.operand)
-    c.requires
-
-pub scope::Scope::evaluate-evaluate_operand-requires : goal.scope::Scope::evaluate-evaluate_operand-requires
-scope::Scope::evaluate-evaluate_operand-requires g t c κs within =
-    let part = use_operand Forward _ _ _ _
+pub scope::Scope::evaluate-evaluate_use-requires : goal.scope::Scope::evaluate-evaluate_use-requires
+scope::Scope::evaluate-evaluate_use-requires g t c κs within =
+    let part = use_at_run Forward _ _ _ _
     (ap syntax c.in-Call.is
     ∙ (c.view_law.ensures.call c.in-Call.field-0 c.in-Call.operand
     ∙ ap (λ y. tree.Call c.in-Call.field-0.value (syntax y)) (sym c.deref-in-Call.ensures)))
-    c.requires _ _ _ _ c.in_ok-meaning-in-Call.ensures.told c.in_ok-meaning-in-Call.ensures.place in
-    search (rules, arith, part.can, part.lighter, part.stand)
+    c.requires (g.E.Env.means c.args.self.now.env.now) in
+    search (rules, arith, part.within, part.lighter, part.stand)
 
-pub scope::Scope::evaluate-returns-in_ok-meaning-in-Call-clause-worth
-    : goal.scope::Scope::evaluate-returns-in_ok-meaning-in-Call-clause-worth
-scope::Scope::evaluate-returns-in_ok-meaning-in-Call-clause-worth g t c =
+pub scope::Scope::evaluate-returns-in-Call-clause-worth : goal.scope::Scope::evaluate-returns-in-Call-clause-worth
+scope::Scope::evaluate-returns-in-Call-clause-worth g t c =
     use_gives Forward _ _ _ _
     (ap syntax c.in-Call.is
     ∙ (c.view_law.ensures.call c.in-Call.field-0 c.in-Call.operand
     ∙ ap (λ y. tree.Call c.in-Call.field-0.value (syntax y)) (sym c.deref-in-Call.ensures)))
-    c.requires _ _ _ _ c.in_ok-meaning-in-Call.ensures.told _ _ _ c.evaluate_operand.ensures.worth
+    c.requires (g.E.Env.means c.args.self.now.env.now) _ _ _ c.evaluate_use.ensures.worth
 
-pub scope::Scope::evaluate-next_meaning-requires-in-Inverse
-    : goal.scope::Scope::evaluate-next_meaning-requires-in-Inverse
-scope::Scope::evaluate-next_meaning-requires-in-Inverse g t c =
-    use_within Inverse _ _ _ _
-    (ap syntax c.in-Inverse.is ∙ c.view_law.ensures.inverse c.in-Inverse.field-0 c.in-Inverse.operand) c.requires
-
-pub scope::Scope::evaluate-evaluate_operand-requires-in-Inverse
-    : goal.scope::Scope::evaluate-evaluate_operand-requires-in-Inverse
-scope::Scope::evaluate-evaluate_operand-requires-in-Inverse g t c κs within =
-    let part = use_operand Inverse _ _ _ _
+pub scope::Scope::evaluate-evaluate_use-requires-in-Inverse
+    : goal.scope::Scope::evaluate-evaluate_use-requires-in-Inverse
+scope::Scope::evaluate-evaluate_use-requires-in-Inverse g t c κs within =
+    let part = use_at_run Inverse _ _ _ _
     (ap syntax c.in-Inverse.is
     ∙ (c.view_law.ensures.inverse c.in-Inverse.field-0 c.in-Inverse.operand
     ∙ ap (λ y. tree.Inverse c.in-Inverse.field-0.value (syntax y)) (sym c.deref-in-Inverse.ensures)))
-    c.requires _ _ _ _ c.in_ok-meaning-in-Inverse.ensures.told
-    c.in_ok-meaning-in-Inverse.ensures.place in
-    search (rules, arith, part.can, part.lighter, part.stand)
+    c.requires (g.E.Env.means c.args.self.now.env.now) in
+    search (rules, arith, part.within, part.lighter, part.stand)
 
-pub scope::Scope::evaluate-returns-in_ok-meaning-in-Inverse-clause-worth
-    : goal.scope::Scope::evaluate-returns-in_ok-meaning-in-Inverse-clause-worth
-scope::Scope::evaluate-returns-in_ok-meaning-in-Inverse-clause-worth g t c =
+pub scope::Scope::evaluate-returns-in-Inverse-clause-worth : goal.scope::Scope::evaluate-returns-in-Inverse-clause-worth
+scope::Scope::evaluate-returns-in-Inverse-clause-worth g t c =
     use_gives Inverse _ _ _ _
     (ap syntax c.in-Inverse.is
     ∙ (c.view_law.ensures.inverse c.in-Inverse.field-0 c.in-Inverse.operand
     ∙ ap (λ y. tree.Inverse c.in-Inverse.field-0.value (syntax y)) (sym c.deref-in-Inverse.ensures)))
-    c.requires _ _ _ _ c.in_ok-meaning-in-Inverse.ensures.told _ _ _ c.evaluate_operand-in-Inverse.ensures.worth
+    c.requires (g.E.Env.means c.args.self.now.env.now) _ _ _ c.evaluate_use-in-Inverse.ensures.worth
 
 pub scope::Scope::evaluate-evaluate-requires : goal.scope::Scope::evaluate-evaluate-requires
 scope::Scope::evaluate-evaluate-requires g t c κs within =
@@ -179,34 +168,52 @@ scope::Scope::evaluate-returns-in-Sum-clause-place g t c =
     (ap syntax c.in-Sum.is ∙ c.view_law.ensures.sum c.in-Sum.terms) in
     chain_ends is _ _ _ c.chain-in-Sum.ensures.place
 
-pub scope::Scope::evaluate_operand-returns-in_err-put_word-clause-worth
-    : goal.scope::Scope::evaluate_operand-returns-in_err-put_word-clause-worth
-scope::Scope::evaluate_operand-returns-in_err-put_word-clause-worth g t c m h =
+pub scope::Scope::evaluate_use-put_word-requires : goal.scope::Scope::evaluate_use-put_word-requires
+scope::Scope::evaluate_use-put_word-requires g t c =
+    use_is_usable _ _ c.requires.within _ _ _ _ c.in_ok-meaning.ensures.told
+
+pub scope::Scope::evaluate_use-evaluate-requires : goal.scope::Scope::evaluate_use-evaluate-requires
+scope::Scope::evaluate_use-evaluate-requires g t c κs within =
+    let lighter = operand_lighter _ _ c.requires.within _ _ _ _ c.in_ok-meaning.ensures.told c.args.direction
+    (expand (g.E.Env.means c.args.self.now.env.now) (syntax c.args.operand.now)) in
+    search (rules, arith, lighter, operand_stands _ _ _ _ c.requires.stand c.in_ok-meaning.ensures.place)
+
+pub scope::Scope::evaluate_use-with_worth-requires : goal.scope::Scope::evaluate_use-with_worth-requires
+scope::Scope::evaluate_use-with_worth-requires g t c κs within =
+    let lighter = operand_lighter _ _ c.requires.within _ _ _ _ c.in_ok-meaning.ensures.told c.args.direction
+    (expand (g.E.Env.means c.args.self.now.env.now) (syntax c.args.operand.now)) in
+    search (rules, arith, lighter, operand_stands _ _ _ _ c.requires.stand c.in_ok-meaning.ensures.place)
+
+pub scope::Scope::evaluate_use-put_taken-requires : goal.scope::Scope::evaluate_use-put_taken-requires
+scope::Scope::evaluate_use-put_taken-requires g t c κs within =
+    let lighter = function_lighter _ _ c.requires.within _ _ _ _ c.in_ok-meaning.ensures.told c.args.direction
+    (expand (g.E.Env.means c.args.self.now.env.now) (syntax c.args.operand.now)) c.in-Function.is in
+    let has = use_has_function _ _ c.requires.within _ _ _ _ c.in_ok-meaning.ensures.told c.in-Function.is in
+    search (rules, arith, lighter, has)
+
+pub scope::Scope::evaluate_use-returns-in_err-put_word-clause-worth
+    : goal.scope::Scope::evaluate_use-returns-in_err-put_word-clause-worth
+scope::Scope::evaluate_use-returns-in_err-put_word-clause-worth g t c u at =
     let p = err_from_is_err_and c.from_residual-in_err-put_word.result c.from_residual-in_err-put_word.ensures.1 in
-    rw (p.1, p.2) (word_fault _ _ _ _ _ _ h c.in_default.not-Function _ c.in_err-put_word.ensures)
+    rw (p.1, p.2) (word_fault _ _ _ _ _ _ (c.in_ok-meaning.ensures.told u at) c.in_default.not-Function _
+    c.in_err-put_word.ensures)
 
-pub scope::Scope::evaluate_operand-returns-in_err-evaluate-2-clause-worth
-    : goal.scope::Scope::evaluate_operand-returns-in_err-evaluate-2-clause-worth
-scope::Scope::evaluate_operand-returns-in_err-evaluate-2-clause-worth g t c m h =
-    let p = err_from_is_err_and c.from_residual-in_err-evaluate-2.result c.from_residual-in_err-evaluate-2.ensures.1 in
-    rw (p.1, p.2) (behind_fault _ _ _ _ _ _ h c.in_default.not-Function c.in_ok-put_word.ensures _
-    c.in_err-evaluate-2.ensures.worth)
+pub scope::Scope::evaluate_use-returns-clause-worth : goal.scope::Scope::evaluate_use-returns-clause-worth
+scope::Scope::evaluate_use-returns-clause-worth g t c u at =
+    product_gives _ _ _ _ _ _ (c.in_ok-meaning.ensures.told u at) c.in_default.not-Function c.in_ok-put_word.ensures _ _
+    c.with_worth.ensures.worth
 
-pub scope::Scope::evaluate_operand-returns-clause-worth : goal.scope::Scope::evaluate_operand-returns-clause-worth
-scope::Scope::evaluate_operand-returns-clause-worth g t c m h =
-    both_give _ _ _ _ _ _ h c.in_default.not-Function c.in_ok-put_word.ensures
-    (c.in_ok-evaluate-2.ensures.worth ∙ ap (λ x. Ok x) (sym c.get.ensures)) _ _ c.take_lent.ensures
+pub scope::Scope::evaluate_use-returns-in_err-evaluate-clause-worth
+    : goal.scope::Scope::evaluate_use-returns-in_err-evaluate-clause-worth
+scope::Scope::evaluate_use-returns-in_err-evaluate-clause-worth g t c u at =
+    let p = err_from_is_err_and c.from_residual-in_err-evaluate.result c.from_residual-in_err-evaluate.ensures.1 in
+    rw (p.1, p.2) (operand_fault _ _ _ _ _ _ (c.in_ok-meaning.ensures.told u at) c.in-Function.is _
+    c.in_err-evaluate.ensures.worth)
 
-pub scope::Scope::evaluate_operand-returns-in_err-evaluate-clause-worth
-    : goal.scope::Scope::evaluate_operand-returns-in_err-evaluate-clause-worth
-scope::Scope::evaluate_operand-returns-in_err-evaluate-clause-worth g t c m h =
-    let p = err_from_is_err_and c.from_residual.result c.from_residual.ensures.1 in
-    rw (p.1, p.2) (operand_fault _ _ _ _ _ _ h c.in-Function.is _ c.in_err-evaluate.ensures.worth)
-
-pub scope::Scope::evaluate_operand-returns-in-Function-clause-worth
-    : goal.scope::Scope::evaluate_operand-returns-in-Function-clause-worth
-scope::Scope::evaluate_operand-returns-in-Function-clause-worth g t c m h =
-    taken_give _ _ _ _ _ _ h c.in-Function.is c.in_ok-evaluate.ensures.worth _ _
+pub scope::Scope::evaluate_use-returns-in-Function-clause-worth
+    : goal.scope::Scope::evaluate_use-returns-in-Function-clause-worth
+scope::Scope::evaluate_use-returns-in-Function-clause-worth g t c u at =
+    taken_give _ _ _ _ _ _ (c.in_ok-meaning.ensures.told u at) c.in-Function.is c.in_ok-evaluate.ensures.worth _ _
     c.put_taken.ensures
 
 pub scope::Scope::evaluate_juxtaposition-next_meaning-requires

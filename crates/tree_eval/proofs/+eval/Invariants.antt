@@ -1,11 +1,12 @@
 use Rattle.std.proofs.Common.{◌+◌, ◌*◌, map, option_map}
 use Rattle.std.specs.Option.{option_copied}
+use Rattle.std.specs.Prelude.{slice_get}
 use Rattle.expr_tree.specs.Trees.{syntax, syntax_of_trees}
 use Rattle.tree_eval.specs.Answers.{amount_of_held_value}
 use Rattle.tree_eval.specs.Expansion.{expand, expand_if}
 use Rattle.tree_eval.specs.Operands.{chain, operand_by_side, operands_with_steps}
 use Rattle.tree_eval.proofs.Chains.{IsRunning}
-use Rattle.tree_eval.proofs.Weight.{weight, weight_callable, weight_given, weight_told}
+use Rattle.tree_eval.proofs.Weight.{weight, weight_callable, weight_given, weight_of_use}
 use Rattle.tree_eval.proofs.+eval.Given as goal
 
 abbrev pub decreases-scope::evaluate_holder : goal.decreases-scope::evaluate_holder
@@ -26,10 +27,11 @@ decreases-scope::Scope::power g l =
     8 * (weight (expand (g.E.Env.means l.self.now.env.now) (syntax l.base.now))
     + weight (expand (g.E.Env.means l.self.now.env.now) (syntax l.exponent.now))) + 3
 
-abbrev pub decreases-scope::Scope::evaluate_operand : goal.decreases-scope::Scope::evaluate_operand
-decreases-scope::Scope::evaluate_operand g l =
-    8 * (weight_told (g.E.Env.callee l.self.now.env.now) l.meaning
-    + weight (expand (g.E.Env.means l.self.now.env.now) (syntax l.operand.now))) + 5
+abbrev pub decreases-scope::Scope::evaluate_use : goal.decreases-scope::Scope::evaluate_use
+decreases-scope::Scope::evaluate_use g l =
+    8 * weight_of_use (g.E.Env.means l.self.now.env.now) l.direction
+    (slice_get (g.E.Env.words l.self.now.env.now l.self.now.holder) l.place.now)
+    (expand (g.E.Env.means l.self.now.env.now) (syntax l.operand.now)) + 1
 
 abbrev pub decreases-scope::put_taken : goal.decreases-scope::put_taken
 decreases-scope::put_taken g l = 8 * weight_callable (g.E.Env.callee l.env.now l.id) + 4
