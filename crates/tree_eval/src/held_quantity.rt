@@ -35,12 +35,12 @@ impl<'a> Held<'a> {
     // Stores the quantity of a result in place of this one.
     pub(crate) fn store_value(
         &mut self,
-        worth: Result<Quantity, EvalFault>,
+        value: Result<Quantity, EvalFault>,
     ) -> Result<(), EvalFault>
-        ensures { (expected : ValueOrFault) → IsEvalResult worth expected
+        ensures { (expected : ValueOrFault) → IsEvalResult value expected
             → GivesValueOrFault (λ _. amount_of_held_value self.new) result expected }
     {
-        *self = Held::Own(worth?);
+        *self = Held::Own(value?);
         Ok(())
     }
 

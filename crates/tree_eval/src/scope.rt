@@ -386,6 +386,6 @@ fn put_taken<E: Env>(
     ensures { GivesValueOrFault (λ _. amount_of_held_value held.new) result
         (direction_value direction (E.callee env.now id) (amount_of_held_value held.old)) }
 {
-    let worth = take(alloc, env, direction, id, held.get());
-    held.store_value(worth)
+    let value = take(alloc, env, direction, id, held.get());
+    held.store_value(value)
 }
