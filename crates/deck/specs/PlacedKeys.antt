@@ -1,14 +1,16 @@
 -- Keys by the places of the lines that define them.
-use Rattle.std.specs.Prelude.{◌≡◌, ℕ, List, Option, Some, option_map}
+use Rattle.std.specs.Prelude.{◌≡◌, ◌++◌, ℕ, List, Bool, Option, Some, option_map}
 use Rattle.std.specs.List.{filter_map}
 use Rattle.def_entry.specs.declared.key.Key.{Key}
+use Rattle.def_entry.specs.declared.key.Kind.TheVariants as kind
 use Rattle.def_entry.specs.Entries.{Entry}
 use Rattle.def_entry.specs.Keys.{key}
-use Rattle.deck_lines.specs.Names.{key_numbered}
+use Rattle.deck_lines.specs.Names.{KeyNumberNames, key_numbered}
 use Rattle.deck_lines.specs.Stores.{LineStoreView, store_definition_at}
 use Rattle.deck_lines.specs.declared.key_number.KeyNumber.{KeyNumber}
 use Rattle.deck_lines.specs.declared.line.DeckLine.{DeckLine}
 use Rattle.deck.specs.LastPlaces.{last_definition_place_at}
+use Rattle.deck.specs.Numbers.{deck_keys_where}
 use Rattle.deck.specs.declared.deck.keys.BorrowedKey.{BorrowedKey}
 use Rattle.deck.specs.declared.deck.placed_keys.PlacedKey.{PlacedKey}
 use Rattle.deck.specs.declared.places.last_places.LastPlaces.{LastPlaces}
@@ -39,3 +41,9 @@ AreKeysInDefinitionPlaces store last =
     (n : KeyNumber) (place : ℕ) → last_definition_place_at last n ≡ Some place
     → deck_key_at_place store.lines place ≡ key_numbered store.names
     n
+
+-- the keys whose numbers pass a test, kind by kind
+abbrev pub deck_keys_of_all_kinds : (KeyNumber → Bool) → KeyNumberNames → List Key
+deck_keys_of_all_kinds test names =
+    deck_keys_where test kind.Unit 0 names.units ++ (deck_keys_where test kind.Prefix 0 names.prefixes
+    ++ (deck_keys_where test kind.Func 0 names.functions ++ deck_keys_where test kind.List 0 names.lists))

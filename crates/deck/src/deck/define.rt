@@ -66,12 +66,31 @@ impl Deck {
     {
         let line = trim(line);
         let (key, what) = read_definition(alloc, line)?;
-        if !self.has_room(line) {
-            return Err(DeckFault::DeckFull);
-        }
-        let over = self.changed_over(alloc, &key, Entry { line, what: &what })?;
+        let over = self.changed_in_room(alloc, &key, Entry { line, what: &what })?;
         self.push_definition(alloc, line, key, what, over.1)?;
         Ok(over)
+    }
+
+    // Does the same as `changed_over`, or returns `DeckFull` if one more line would pass a limit.
+    fn changed_in_room(
+        &self,
+        alloc: Global,
+        key: &Key,
+        entry: Entry<'_>,
+    ) -> Result<(Keys, Option<usize>), DeckFault>
+        ensures changed { IfOk result (λ over.
+            entry_in_store_line (plain_store_line 0 entry.entry.line.now) ≡ Some (key.now, entry_view entry.entry)
+            → IsEditChange self.now (edit.deck_with_line entry.entry.line.now self.now) over.0) }
+        ensures place { IfOk result (λ over. over.1 ≡ last_definition_place self.now.settings self.now.lines key.now) }
+        ensures within { OnOk result (pass_store_limit (edit.deck_with_line entry.entry.line.now self.now).lines
+            ≡ false) }
+        ensures err { IfErr result (λ fault. (fault ≡ OutOfMemory)
+            ⊎ (edit.deck_within_limit (edit.deck_with_line entry.entry.line.now self.now) ≡ Err fault)) }
+    {
+        if !self.has_room(entry.line) {
+            return Err(DeckFault::DeckFull);
+        }
+        Ok(self.changed_over(alloc, key, entry)?)
     }
 
     // Reports whether one more line with this text is within the limits.

@@ -7,9 +7,10 @@ ghost use Rattle.deck_lines.specs.KeyNumbering.{IsKeyNumbering};
 ghost use Rattle.deck_lines.specs.LineLoads.{excerpt_in};
 ghost use Rattle.deck_lines.specs.Transcripts.{IsLoad, files_model};
 ghost use Rattle.deck.specs.Changes.{IsDeckTableChange, IsEditChange};
-ghost use Rattle.deck.specs.LastPlaces.{IsDeckIndexed};
+ghost use Rattle.deck.specs.LastPlaces.{AreLastDefinitionPlaces, IsDeckIndexed};
 ghost use Rattle.deck.specs.FileLoads as loading;
-ghost use Rattle.deck.specs.Tables.{active_definitions, table_of_deck_definitions};
+ghost use Rattle.deck.specs.Numbers.{AreDefinitionsInPlace};
+ghost use Rattle.deck.specs.Tables.{DeckDefinitions, active_definitions, table_of_deck_definitions};
 ghost use Rattle.deck.specs.declared.fault.DeckFault.TheVariants.{OutOfMemory};
 
 use super::Deck;
@@ -19,7 +20,7 @@ use crate::places::{LastPlaces, changed_keys};
 use crate::settings::Settings;
 use deck_lines::{Draft, LineStore, Notices, failed_fetches_end_loads};
 use def_entry::Keys;
-use std::alloc::Global;
+use std::alloc::{AllocError, Global};
 use std::mem;
 use units_io::Files;
 
@@ -44,7 +45,7 @@ impl Deck {
         ensures stores { F.store_faults files.new ≡ F.store_faults files.old }
     {
         self.covered_lines = None;
-        let FileEnd { changes, notices } = append_file(
+        let end = append_file(
             alloc,
             files,
             &mut self.store,
@@ -52,9 +53,7 @@ impl Deck {
             &self.settings,
             name,
         )?;
-        self.last = changes.last;
-        self.notices = notices;
-        Ok(changes.keys)
+        Ok(end.store(&mut self.last, &mut self.notices))
     }
 }
 
@@ -70,6 +69,20 @@ struct PlaceChanges {
 struct FileEnd {
     changes: PlaceChanges,
     notices: Notices,
+}
+
+impl FileEnd {
+    // Stores the last places and the notices, and returns the changed keys.
+    fn store(self, last: &mut LastPlaces, notices: &mut Notices) -> Keys
+        ensures last { last.new ≡ self.changes.last }
+        ensures notices { notices.new ≡ self.notices }
+        ensures keys { result ≡ self.changes.keys }
+    {
+        let PlaceChanges { last: now, keys } = self.changes;
+        *last = now;
+        *notices = self.notices;
+        keys
+    }
 }
 
 // Appends the deck of a file to the lines of a deck. On an error the lines are unchanged.
@@ -148,7 +161,24 @@ fn load_changes<F: Files>(
 {
     failed_fetches_end_loads();
     load_file(alloc, files, draft, name)?;
-    let now = LastPlaces::under(alloc, settings, &draft.store)?;
-    let keys = changed_keys(alloc, &draft.store, last, &now)?;
+    Ok(find_place_changes(alloc, &draft.store, last, settings)?)
+}
+
+// Computes the changes from the previous last places to those of the present lines.
+fn find_place_changes(
+    alloc: Global,
+    store: &LineStore,
+    last: &LastPlaces,
+    settings: &Settings,
+) -> Result<PlaceChanges, AllocError>
+    ensures within { pass_store_limit store.now.lines ≡ false }
+    ensures last { IfOk result (λ now. AreLastDefinitionPlaces store.now.names
+        (active_definitions settings.now store.now.lines) now.last) }
+    ensures keys { IfOk result (λ now. (ds : DeckDefinitions) → AreDefinitionsInPlace store.now.lines ds
+        → AreLastDefinitionPlaces store.now.names ds last.now → IsDeckTableChange (table_of_deck_definitions ds)
+        (table_of_deck_definitions (active_definitions settings.now store.now.lines)) now.keys) }
+{
+    let now = LastPlaces::under(alloc, settings, store)?;
+    let keys = changed_keys(alloc, store, last, &now)?;
     Ok(PlaceChanges { last: now, keys })
 }

@@ -1,8 +1,11 @@
 //! Removal of the numbers of keys that no line defines any more.
 
-ghost use Rattle.std.specs.Prelude.{◌≡◌, [], IfOk};
-ghost use Rattle.deck_lines.specs.Renumberings.{key_number_names_after};
+ghost use Rattle.std.specs.Prelude.{◌≡◌, [], IfOk, OnOk};
+ghost use Rattle.def_entry.specs.declared.key.Kind as key_kind;
+ghost use Rattle.deck_lines.specs.Renumberings.{IsKeyRenumbering, key_number_names_after};
+ghost use Rattle.deck.specs.KindPlaces.{HasSameDefinitionPlaces};
 ghost use Rattle.deck.specs.LastPlaces.{AreLastDefinitionPlaces, HasDefinitionPlaceRoom, IsDeckIndexed};
+ghost use Rattle.deck.specs.LastPlaces.{last_definition_places};
 
 use super::Deck;
 use crate::force::active_flags;
@@ -47,12 +50,34 @@ fn renumber(
     ensures indexed { IsDeckIndexed store.new settings.now last.new }
 {
     let flags = active_flags(alloc, store, settings)?;
-    let numbers = Renumbering::of_store(alloc, store)?;
-    let mut places = with_room(alloc, &numbers)?;
+    let made = number_keys(alloc, store)?;
+    let NewNumbers {
+        numbers,
+        mut places,
+    } = made;
     store.renumber(numbers);
     places.note_lines(&EditedLines::without_change(store), flags.as_slice());
     *last = places;
     Ok(())
+}
+
+// New numbers, and last places without a place that have room for the keys that get one.
+#[derive(Drop)]
+struct NewNumbers {
+    numbers: Renumbering,
+    places: LastPlaces,
+}
+
+// Returns new numbers for the keys that lines define.
+fn number_keys(alloc: Global, store: &LineStore) -> Result<NewNumbers, AllocError>
+    ensures numbers { IfOk result (λ made. IsKeyRenumbering store.now.lines made.numbers) }
+    ensures room { IfOk result (λ made. HasDefinitionPlaceRoom (key_number_names_after made.numbers) made.places) }
+    ensures none { IfOk result
+        (λ made. AreLastDefinitionPlaces (key_number_names_after made.numbers) [] made.places) }
+{
+    let numbers = Renumbering::of_store(alloc, store)?;
+    let places = with_room(alloc, &numbers)?;
+    Ok(NewNumbers { numbers, places })
 }
 
 // Returns last places without a place, with room for all keys that get a number.
@@ -61,9 +86,19 @@ fn with_room(alloc: Global, numbers: &Renumbering) -> Result<LastPlaces, AllocEr
     ensures none { IfOk result (λ last. AreLastDefinitionPlaces (key_number_names_after numbers.now) [] last) }
 {
     let mut last = LastPlaces::new(alloc);
+    make_room(numbers, &mut last)?;
+    Ok(last)
+}
+
+// Makes room for the places of all keys that get a number. All places stay.
+fn make_room(numbers: &Renumbering, last: &mut LastPlaces) -> Result<(), AllocError>
+    ensures room { OnOk result (HasDefinitionPlaceRoom (key_number_names_after numbers.now) last.new) }
+    ensures same { OnOk result ((kind : key_kind.Kind)
+        → HasSameDefinitionPlaces (last_definition_places last.old kind) (last_definition_places last.new kind)) }
+{
     last.make_room(Kind::Unit, numbers.name_count(Kind::Unit))?;
     last.make_room(Kind::Prefix, numbers.name_count(Kind::Prefix))?;
     last.make_room(Kind::Func, numbers.name_count(Kind::Func))?;
     last.make_room(Kind::List, numbers.name_count(Kind::List))?;
-    Ok(last)
+    Ok(())
 }

@@ -1,6 +1,6 @@
 //! The keys of a deck with their places.
 
-ghost use Rattle.std.specs.Prelude.{◌≡◌, ◌++◌, All, map, IfOk, OnOk};
+ghost use Rattle.std.specs.Prelude.{◌≡◌, ◌++◌, [], All, map, IfOk, OnOk};
 ghost use Rattle.std.specs.List.Sorted.{IsPermutation, IsSortedByKey};
 ghost use Rattle.def_entry.specs.KeyOrder.{KeyOrderLaw, key_cmp, key_order_number};
 ghost use Rattle.deck_lines.specs.Names.{key_number_names_of_kind, key_numbered};
@@ -8,7 +8,8 @@ ghost use Rattle.deck_lines.specs.KeyNumbering.{IsKeyNumbering};
 ghost use Rattle.deck.specs.SubstringKeys.{deck_keys_holding_text, is_deck_number_holding_text};
 ghost use Rattle.deck.specs.KeyLists.{deck_table_keys};
 ghost use Rattle.deck.specs.Numbers.{deck_key_if, deck_keys_where};
-ghost use Rattle.deck.specs.PlacedKeys.{AreKeysInDefinitionPlaces, IsKeyInDefinitionPlace, placed_deck_key};
+ghost use Rattle.deck.specs.PlacedKeys.{AreKeysInDefinitionPlaces, IsKeyInDefinitionPlace, deck_keys_of_all_kinds};
+ghost use Rattle.deck.specs.PlacedKeys.{placed_deck_key};
 ghost use Rattle.deck.specs.Tables.{table_of_deck};
 
 use super::Deck;
@@ -52,12 +53,31 @@ impl Deck {
         key_order_law();
         let finder = Finder::new(text);
         let mut keys = Vec::new(alloc);
-        push_placed(&mut keys, &self.store, &self.last, &finder, Kind::Unit)?;
-        push_placed(&mut keys, &self.store, &self.last, &finder, Kind::Prefix)?;
-        push_placed(&mut keys, &self.store, &self.last, &finder, Kind::Func)?;
-        push_placed(&mut keys, &self.store, &self.last, &finder, Kind::List)?;
+        push_all_placed(&mut keys, &self.store, &self.last, &finder)?;
         Ok(in_order(keys))
     }
+}
+
+// Appends the keys of all kinds that have a last place and whose names contain the text of a finder to an empty list,
+// kind by kind.
+fn push_all_placed<'a>(
+    keys: &mut Vec<PlacedKey<'a>>,
+    store: &'a LineStore,
+    last: &LastPlaces,
+    finder: &Finder<'_>,
+) -> Result<(), AllocError>
+    requires places { AreKeysInDefinitionPlaces store.now last.now }
+    requires none { keys.old.items ≡ [] }
+    ensures numbering { IsKeyNumbering store.now }
+    ensures in_place { OnOk result (All (IsKeyInDefinitionPlace store.now.lines) keys.new.items) }
+    ensures keys { OnOk result (map placed_deck_key keys.new.items
+        ≡ deck_keys_of_all_kinds (is_deck_number_holding_text store.now.names last.now finder.now) store.now.names) }
+{
+    push_placed(keys, store, last, finder, Kind::Unit)?;
+    push_placed(keys, store, last, finder, Kind::Prefix)?;
+    push_placed(keys, store, last, finder, Kind::Func)?;
+    push_placed(keys, store, last, finder, Kind::List)?;
+    Ok(())
 }
 
 // Appends the keys of a kind that have a last place and whose names contain the text of a finder to some keys.

@@ -1,6 +1,6 @@
 //! Copying decks.
 
-ghost use Rattle.std.specs.Prelude.{◌≡◌, IfOk, Some, option_map, slice_get};
+ghost use Rattle.std.specs.Prelude.{◌≡◌, ◌<◌, ◌+◌, IfOk, OnOk, Some, length, option_map, slice_get, take};
 ghost use Rattle.def_entry.specs.LineViews.{seen_entry};
 ghost use Rattle.deck_lines.specs.Readings.{entry_in_store_line};
 ghost use Rattle.deck_lines.specs.declared.line.DeckLine.{DeckLine};
@@ -31,13 +31,28 @@ fn copied_store(alloc: Global, store: &LineStore) -> Result<LineStore, AllocErro
 {
     let mut copy = LineStore::new(alloc, store.table_seed());
     for place in 0..store.len() {
-        let line = store.line(place);
-        let number = line.number;
-        let text = Text::from_bytes(alloc, line.text)?;
-        let definition = copied_definition(alloc, store, place)?;
-        copy.push(alloc, Line { number, text }, line.mark, definition)?;
+        push_copy(alloc, &mut copy, store, place)?;
     }
     Ok(copy)
+}
+
+// Appends a copy of the line at `place` to a copy of the lines before it.
+fn push_copy(
+    alloc: Global,
+    copy: &mut LineStore,
+    store: &LineStore,
+    place: usize,
+) -> Result<(), AllocError>
+    requires within { place < length store.now.lines }
+    requires front { copy.old.lines ≡ take place store.now.lines }
+    ensures { OnOk result (copy.new.lines ≡ take (place + 1) store.now.lines) }
+{
+    let line = store.line(place);
+    let number = line.number;
+    let text = Text::from_bytes(alloc, line.text)?;
+    let definition = copied_definition(alloc, store, place)?;
+    copy.push(alloc, Line { number, text }, line.mark, definition)?;
+    Ok(())
 }
 
 // Returns a copy of the definition of the line at `place`, or `None` if it defines nothing.

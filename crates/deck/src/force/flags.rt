@@ -1,12 +1,12 @@
 //! Computes which lines are active.
 
-ghost use Rattle.std.specs.Prelude.{◌≡◌, IfOk};
-ghost use Rattle.deck.specs.Active.{active_lines};
+ghost use Rattle.std.specs.Prelude.{◌≡◌, ◌++◌, ◌∷◌, [], ℕ, IfOk, OnOk};
+ghost use Rattle.deck.specs.Active.{active_lines, deck_surroundings_after_line, is_active_line};
 
 use super::in_force::InForce;
 use super::surroundings::Surroundings;
 use crate::settings::Settings;
-use deck_lines::{EditedLines, LineStore};
+use deck_lines::{BorrowedLine, EditedLines, LineStore};
 use std::alloc::{AllocError, Global};
 
 /// Returns for each line of a store whether it is active under the settings.
@@ -43,10 +43,24 @@ pub(crate) fn flags_in_force(
     let mut flags = Vec::new(alloc);
     let mut around = Surroundings::start(alloc, settings);
     for place in 0..edited.len() {
-        let line = edited.line(place);
-        let active = around.is_active(line.mark);
-        flags.push(active)?;
-        around.pass(alloc, locale, line.text, line.mark)?;
+        push_flag(alloc, locale, edited.line(place), &mut around, &mut flags)?;
     }
     Ok(flags)
+}
+
+// Pushes whether a line is active, and updates the state for it.
+fn push_flag(
+    alloc: Global,
+    locale: &[u8],
+    line: BorrowedLine<'_>,
+    around: &mut Surroundings<'_>,
+    flags: &mut Vec<bool>,
+) -> Result<(), AllocError>
+    ensures flags { (number : ℕ) → OnOk result (flags.new.items ≡ flags.old.items ++ is_active_line around.old
+        (record { number = number; text = line.entry.text.now; mark = line.entry.mark }) ∷ []) }
+    ensures around { (number : ℕ) → OnOk result (around.new ≡ deck_surroundings_after_line locale.now around.old
+        (record { number = number; text = line.entry.text.now; mark = line.entry.mark })) }
+{
+    flags.push(around.is_active(line.mark))?;
+    around.pass(alloc, locale, line.text, line.mark)
 }

@@ -1,6 +1,6 @@
 //! The blocks and variables that affect a line of a deck.
 
-ghost use Rattle.std.specs.Prelude.{◌≡◌, ℕ, [], OnOk, IfNone};
+ghost use Rattle.std.specs.Prelude.{◌≡◌, ℕ, [], OnOk, IfNone, IfOk};
 ghost use Rattle.std.specs.Option.{option_copied};
 ghost use Rattle.units_io.specs.NamedValues.{HasNoTextOfName, named_text};
 ghost use Rattle.deck_lines.specs.declared.line.DeckLine.{DeckLine};
@@ -14,12 +14,23 @@ use units_io::{Text, Vars};
 
 /// The state before a line: whether each enclosing block holds, how many of them do not, and the variables that are
 /// set, both those of the settings and those that earlier lines have set.
-#[derive(Drop)]
 pub(crate) struct Surroundings<'a> {
     holds: Vec<bool>,
     failing: usize,
     base: &'a InForce<'a>,
     set: Vars,
+}
+
+// Written by hand, so that code that drops surroundings need not prove anything about their variables.
+impl<'a> Drop for Surroundings<'a> {
+    fn drop(self) {
+        let Surroundings {
+            holds: _,
+            failing: _,
+            base: _,
+            set: _,
+        } = self;
+    }
 }
 
 impl<'a> Model for Surroundings<'a> {
@@ -146,8 +157,17 @@ impl<'a> Surroundings<'a> {
         if !self.all_hold() || self.value(name).is_some() {
             return Ok(());
         }
-        let name = Text::from_bytes(alloc, name)?;
-        let value = Text::from_bytes(alloc, value)?;
-        self.set.push(alloc, (name, value))
+        let variable = copy_variable(alloc, name, value)?;
+        self.set.push(alloc, variable)
     }
+}
+
+// Copies the name and the value of a variable.
+fn copy_variable(alloc: Global, name: &[u8], value: &[u8]) -> Result<(Text, Text), AllocError>
+    ensures name { IfOk result (λ variable. variable.0 ≡ name.now) }
+    ensures value { IfOk result (λ variable. variable.1 ≡ value.now) }
+{
+    let name = Text::from_bytes(alloc, name)?;
+    let value = Text::from_bytes(alloc, value)?;
+    Ok((name, value))
 }

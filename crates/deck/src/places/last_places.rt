@@ -16,10 +16,16 @@ use std::alloc::{AllocError, Global};
 
 /// The places of the last active lines of keys, indexed by the numbers of the keys. Each is stored as a slot: a slot
 /// stays if lines before it are removed, and is a place less the gaps before it.
-#[derive(Drop)]
 pub(crate) struct LastPlaces {
     pub slots: KeyPlaces,
     pub gaps: Gaps,
+}
+
+// Written by hand, so that code that drops last places need not prove anything about their tables.
+impl Drop for LastPlaces {
+    fn drop(self) {
+        let LastPlaces { slots: _, gaps: _ } = self;
+    }
 }
 
 impl LastPlaces {

@@ -1,9 +1,11 @@
 //! The pass over the lines of a deck that finds the last places.
 
-ghost use Rattle.std.specs.Prelude.{◌≡◌, ◌++◌, [], IfOk, length, false};
+ghost use Rattle.std.specs.Prelude.{◌≡◌, ◌++◌, [], IfOk, OnOk, length, false};
+ghost use Rattle.def_entry.specs.declared.key.Kind as key_kind;
 ghost use Rattle.deck_lines.specs.Limits.{pass_store_limit};
 ghost use Rattle.deck_lines.specs.Stores.{store_definition_at};
-ghost use Rattle.deck.specs.LastPlaces.{AreLastDefinitionPlaces, HasDefinitionPlaceRoom};
+ghost use Rattle.deck.specs.KindPlaces.{HasSameDefinitionPlaces};
+ghost use Rattle.deck.specs.LastPlaces.{AreLastDefinitionPlaces, HasDefinitionPlaceRoom, last_definition_places};
 ghost use Rattle.deck.specs.Tables.{DeckDefinitions, active_definitions, active_definitions_among};
 ghost use Rattle.deck.specs.Tables.{definition_of_active_line};
 
@@ -91,11 +93,21 @@ pub(super) fn with_room(alloc: Global, edited: &EditedLines<'_>) -> Result<LastP
     ensures none { IfOk result (λ last. AreLastDefinitionPlaces edited.now.names [] last) }
 {
     let mut last = LastPlaces::new(alloc);
+    make_room(edited, &mut last)?;
+    Ok(last)
+}
+
+// Makes room for the places of all keys that have a number. All places stay.
+fn make_room(edited: &EditedLines<'_>, last: &mut LastPlaces) -> Result<(), AllocError>
+    ensures room { OnOk result (HasDefinitionPlaceRoom edited.now.names last.new) }
+    ensures same { OnOk result ((kind : key_kind.Kind)
+        → HasSameDefinitionPlaces (last_definition_places last.old kind) (last_definition_places last.new kind)) }
+{
     last.make_room(Kind::Unit, edited.name_count(Kind::Unit))?;
     last.make_room(Kind::Prefix, edited.name_count(Kind::Prefix))?;
     last.make_room(Kind::Func, edited.name_count(Kind::Func))?;
     last.make_room(Kind::List, edited.name_count(Kind::List))?;
-    Ok(last)
+    Ok(())
 }
 
 /// Sets the place of the key of a line to `place`, if the line is active.

@@ -11,27 +11,16 @@ use Rattle.deck.proofs.deck.file_append.load_changes.Goals as goal
 
 pub returns-clause-changed : goal.returns-clause-changed
 returns-clause-changed g c =
-    c.in_ok-keys.ensures (active_definitions c.args.settings.now c.args.draft.now.store.lines)
-    (active_definitions c.args.settings.now c.load_file.new.draft.store.lines)
+    c.in_ok-find_place_changes.ensures.keys (active_definitions c.args.settings.now c.args.draft.now.store.lines)
     (definitions_in_place_extended c.args.draft.now.store c.load_file.new.draft.store _
     (active_definitions_in_place c.args.settings.now c.args.draft.now.store.lines) c.load_file.ensures.extends)
-    (active_definitions_in_place c.args.settings.now c.load_file.new.draft.store.lines)
     (last_definition_places_grown c.args.draft.now.store c.load_file.new.draft.store c.args.settings.now c.args.last.now
     c.requires.numbering c.requires.indexed.places c.load_file.ensures.extends)
-    c.in_ok-now.ensures.last
 
-pub returns-in_err-now-clause-loads : goal.returns-in_err-now-clause-loads
-returns-in_err-now-clause-loads g c =
-    let p = err_from_is_err_and c.from_residual-in_err-now.result c.from_residual-in_err-now.ensures.1 in
-    rw (p.1, p.2) (load_without_memory (files_model g.F.Files.files g.F.Files.faults g.F.Files.is_fetch)
-    c.failed_fetches_end_loads.ensures.failed c.args.files.now c.load_file.new.files c.args.name.now
-    (excerpt_in c.args.draft.now) (excerpt_in c.load_file.new.draft)
-    (deck_load_of_name c.args.name.now (deck_excerpt_of_lines c.args.draft.now.store.lines))
-    (λ (_ : PlaceChanges). excerpt_in c.load_file.new.draft) c.in_ok-load_file.ensures.loads)
-
-pub returns-in_err-keys-clause-loads : goal.returns-in_err-keys-clause-loads
-returns-in_err-keys-clause-loads g c =
-    let p = err_from_is_err_and c.from_residual-in_err-keys.result c.from_residual-in_err-keys.ensures.1 in
+pub returns-in_err-find_place_changes-clause-loads : goal.returns-in_err-find_place_changes-clause-loads
+returns-in_err-find_place_changes-clause-loads g c =
+    let p = err_from_is_err_and c.from_residual-in_err-find_place_changes.result
+    c.from_residual-in_err-find_place_changes.ensures.1 in
     rw (p.1, p.2) (load_without_memory (files_model g.F.Files.files g.F.Files.faults g.F.Files.is_fetch)
     c.failed_fetches_end_loads.ensures.failed c.args.files.now c.load_file.new.files c.args.name.now
     (excerpt_in c.args.draft.now) (excerpt_in c.load_file.new.draft)

@@ -1,4 +1,4 @@
-use Rattle.std.proofs.Common.{◌++◌, ◌∷◌, ◌+◌, [], List, drop, refl, sym, ap, ◌∙◌, arith}
+use Rattle.std.proofs.Common.{◌++◌, ◌∷◌, ◌+◌, [], List, drop, sym, ap, ◌∙◌, arith}
 use Rattle.std.proofs.lemmas.List.{append-nil, drop_all}
 use Rattle.deck_lines.specs.declared.line.DeckLine.{DeckLine}
 use Rattle.deck.specs.Active.{DeckSurroundings, active_line_flags, is_active_line}
@@ -6,8 +6,8 @@ use Rattle.deck.proofs.ActiveLineFlags.{active_line_flags_step}
 use Rattle.deck.proofs.force.flags.flags_in_force.Goals as goal
 use Rattle.general_lemmas.proofs.Places.{drop_at}
 
-pub line-line-requires : goal.line-line-requires
-line-line-requires c = omega (arith, c.loop-place-test.true, c.len-place-end.ensures)
+pub line-requires : goal.line-requires
+line-requires c = omega (arith, c.loop-place-test.true, c.len-place-end.ensures)
 
 pub loop-place-preserved : goal.loop-place-preserved
 loop-place-preserved c =
@@ -15,20 +15,18 @@ loop-place-preserved c =
     let lines : List DeckLine = c.args.edited.now.new_lines in
     let line : DeckLine =
     record {
-      number = c.line-line.result.number;
-      text = c.line-line.result.text.now;
+      number = c.line.result.number;
+      text = c.line.result.text.now;
       mark =
-          c.line-line.result.mark;
+          c.line.result.mark;
     } in
     let rest : List DeckLine = drop (c.loop-place.place + 1) lines in
-    ap (λ fs. fs ++ active_line_flags locale c.pass.new.self rest)
-    (c.in_ok-push.ensures.items
-    ∙ ap (λ a. c.loop-place.flags.items ++ a ∷ []) (c.is_active-active.ensures line refl))
+    ap (λ fs. fs ++ active_line_flags locale c.push_flag.new.around rest) (c.in_ok-push_flag.ensures.flags line.number)
     ∙ ap (λ (s : DeckSurroundings). (c.loop-place.flags.items ++ is_active_line c.loop-place.around line ∷ [])
-    ++ active_line_flags locale s rest) (c.in_ok-pass.ensures line.number)
+    ++ active_line_flags locale s rest) (c.in_ok-push_flag.ensures.around line.number)
     ∙ active_line_flags_step locale c.loop-place.around (drop c.loop-place.place lines) rest c.loop-place.flags.items _
     line
-    (drop_at lines c.loop-place.place line c.line-line.ensures) c.loop-place.invariant
+    (drop_at lines c.loop-place.place line c.line.ensures) c.loop-place.invariant
 
 pub returns : goal.returns
 returns c =

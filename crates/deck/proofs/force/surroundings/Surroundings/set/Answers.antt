@@ -13,6 +13,6 @@ pub push-requires : goal.push-requires
 push-requires c =
     let lacks : HasNoTextOfName c.args.self.now.vars c.args.name.now =
     if_absent c.value.result (sym c.is_some.ensures ∙ c.if-is_some.false) c.value.ensures.absent in
-    subst (HasNoTextOfName c.self.inside.set) (sym c.in_ok-name.ensures)
+    subst (HasNoTextOfName c.self.inside.set) (sym c.in_ok-variable.ensures.name)
     (no_setting_in_second_part c.self.inside.base.now.vars c.self.inside.set c.args.name.now
     (subst (λ (s : DeckSurroundings). HasNoTextOfName s.vars c.args.name.now) (sym c.self.view_is) lacks))
