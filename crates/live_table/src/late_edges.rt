@@ -9,13 +9,23 @@ use std::collections::VecDeque;
 
 /// Which settled names use which, and which other keys each has looked at. Only edits need the edges, queries do not:
 /// names settled since the last edit get their edges at the next one.
-#[derive(Drop)]
 pub(crate) struct LateEdges {
     pub(crate) made: NameEdges,
     // the names without edges, in the order in which they were settled
     pub(crate) waiting: VecDeque<usize>,
     // the names to which the words of one name lead
     pub(crate) targets: Worklist,
+}
+
+// Written by hand, so that code that drops edges need not prove anything about the contents.
+impl Drop for LateEdges {
+    fn drop(self) {
+        let LateEdges {
+            made: _,
+            waiting: _,
+            targets: _,
+        } = self;
+    }
 }
 
 impl LateEdges {

@@ -20,7 +20,6 @@ use units_io::HashSeed;
 /// The names of a live table by number, absent names included: the key of each, whether it has an entry, the data of a
 /// function, the outcome of a settled name, the steps of its words, the numbers of the keys at which they look besides
 /// their targets, and whether it is settled; and the number of settled names.
-#[derive(Drop)]
 pub(crate) struct Nodes {
     pub(crate) keys: KeyIndex,
     pub(crate) present: Vec<bool>,
@@ -35,6 +34,24 @@ pub(crate) struct Nodes {
     pub(crate) places: Vec<u32>,
     // the keys at which the words of one name have looked so far besides their targets
     pub(crate) gathered: Worklist,
+}
+
+// Written by hand, so that code that drops names need not prove anything about the contents.
+impl Drop for Nodes {
+    fn drop(self) {
+        let Nodes {
+            keys: _,
+            present: _,
+            callees: _,
+            outcomes: _,
+            steps: _,
+            looks: _,
+            settled: _,
+            settled_count: _,
+            places: _,
+            gathered: _,
+        } = self;
+    }
 }
 
 impl Nodes {

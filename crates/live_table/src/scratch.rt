@@ -6,11 +6,21 @@ use name_walk::Walker;
 use std::alloc::Global;
 
 /// Memory that one query leaves to the next.
-#[derive(Drop)]
 pub(crate) struct Scratch {
     pub(crate) worklist: Worklist,
     pub(crate) tried: TriedKeys,
     pub(crate) walker: Walker,
+}
+
+// Written by hand, so that code that drops a scratch need not prove anything about the contents.
+impl Drop for Scratch {
+    fn drop(self) {
+        let Scratch {
+            worklist: _,
+            tried: _,
+            walker: _,
+        } = self;
+    }
 }
 
 impl Scratch {
