@@ -6,8 +6,9 @@
 Each row is run at three sizes in turns, seven times each. A line for each size has the size, the least processor time
 and the least peak memory; then a line has the exponents between the larger two: 1 is linear, 2 quadratic. The cost of
 the smallest input is subtracted, so that the start of the program does not hide the growth. A row with an easier input
-has the ratio of the times, which may be at most 2, and a row with a bound on its memory has both. A row ends in `ok` or
-`over`, according to its bounds. If the time of a row grows faster than its bound and valgrind is installed, the exponent
+has the ratio of the times, which may be at most 2, and a row with a bound on its memory has both. If GNU units is
+installed and has the operation, its time for the largest size follows. A row ends in `ok` or `over`, according to its
+bounds. If the time of a row grows faster than its bound and valgrind is installed, the exponent
 of the instructions follows: time also grows when data leaves a cache, and with what else the machine does. The last row
 counts the instructions of a small conversion by the program that `bin/units` runs. By default all rows are run, which
 takes three minutes.
@@ -37,6 +38,8 @@ REPEATS = 7
 STARTING_PROGRAM = ROOT / "release/units-x86_64-linux-static"
 MOST_INSTRUCTIONS = 450_000
 START = "start of a conversion"
+GNU_UNITS = "/usr/bin/units"
+MOST_GNU_SECONDS = 30
 
 
 @dataclass(frozen=True)
@@ -55,7 +58,7 @@ class Row:
 
     The cost of a run of the size `base` is subtracted, or that of `start` for the same size if the start grows too. If
     there is an easier input, the largest size may take at most twice its time, less that of `easier_start`. `most_bytes`
-    is the most memory that a size may take beyond the subtracted run.
+    is the most memory that a size may take beyond the subtracted run. `in_gnu` says that GNU units accepts the same run.
     """
 
     name: str
@@ -68,6 +71,7 @@ class Row:
     easier: Callable[[int], Run] | None = None
     easier_start: Callable[[int], Run] | None = None
     most_bytes: Callable[[int], float] | None = None
+    in_gnu: bool = False
 
 
 @dataclass(frozen=True)
@@ -231,6 +235,7 @@ ROWS = [
         lambda n: unknown_words(n, 60),
         (1000, 2000, 4000),
         most_bytes=lambda n: 30 * bytes_of_text(unknown_words(n, 60)),
+        in_gnu=True,
     ),
     Row(
         "unknown words, longer ones",
@@ -238,6 +243,7 @@ ROWS = [
         (60, 120, 240),
         base=20,
         most_bytes=lambda n: 30 * bytes_of_text(unknown_words(1000, n)),
+        in_gnu=True,
     ),
     Row("define a fault, query it, undo", definitions_and_undos, (4000, 8000, 16000), most_bytes=lambda n: 4e6),
     Row("define and drop", definitions_and_drops, (20000, 40000, 80000)),
@@ -259,8 +265,18 @@ ROWS = [
         (2500, 5000, 10000),
         start=lambda n: set_in_environment(n, 0),
     ),
-    Row("check of a faulty chain", lambda n: Run(("-c",), chain(n, False)), (2000, 4000, 8000)),
-    Row("check of a faulty chain, backwards", lambda n: Run(("-c",), chain(n, True)), (2000, 4000, 8000)),
+    Row(
+        "check of a faulty chain",
+        lambda n: Run(("-c",), chain(n, False)),
+        (2000, 4000, 8000),
+        in_gnu=True,
+    ),
+    Row(
+        "check of a faulty chain, backwards",
+        lambda n: Run(("-c",), chain(n, True)),
+        (2000, 4000, 8000),
+        in_gnu=True,
+    ),
     Row("units that conform, over a faulty chain", lambda n: Run(("m", "?"), chain(n, False)), (2000, 4000, 8000)),
     Row("units that conform, over a ring", lambda n: Run(("m", "?"), ring(n)), (1000, 2000, 4000)),
     # The output grows with the square of the ring, and so does the time (docs/DECISIONS.md).
@@ -284,12 +300,13 @@ ROWS = [
     Row("variables of the environment", environment, (8000, 16000, 32000), time=2.2),
     Row("200 edits beside watches", watches, (250, 500, 1000)),
     Row("a search in long names", search, (4000, 8000, 16000)),
-    Row("a product of distinct primitives", product, (4000, 8000, 16000)),
+    Row("a product of distinct primitives", product, (4000, 8000, 16000), in_gnu=True),
     Row(
         "names that collide under the fixed seed",
         lambda n: names_of_file(colliding_names(n)),
         (2000, 4000, 8000),
         easier=random_names,
+        in_gnu=True,
     ),
 ]
 
@@ -367,6 +384,21 @@ def times_of_easier(program: str, row: Row, seconds: float, folder: Path) -> flo
     return seconds / max(easier.seconds - start.seconds, 0.001)
 
 
+def time_of_gnu(row: Row, folder: Path) -> str:
+    """The time of GNU units for the largest size, if it has the operation and is installed."""
+    if not row.in_gnu or not os.path.exists(GNU_UNITS):
+        return ""
+    run = row.make(row.sizes[2])
+    words, begin = words_of(run, folder), resource.getrusage(resource.RUSAGE_CHILDREN)
+    with open(os.devnull, "r+b") as null:
+        command = ["timeout", str(MOST_GNU_SECONDS), GNU_UNITS, *words]
+        status = subprocess.run(command, stdin=null, stdout=null, stderr=null, env=run.variables, check=False).returncode
+    if status == 124:
+        return f", GNU units over {MOST_GNU_SECONDS} s"
+    end = resource.getrusage(resource.RUSAGE_CHILDREN)
+    return f", GNU units {end.ru_utime + end.ru_stime - begin.ru_utime - begin.ru_stime:.3f} s"
+
+
 def measure(program: str, row: Row, folder: Path) -> bool:
     """Prints the lines of a row, and returns whether it is within its bounds."""
     if row.start is None:
@@ -395,6 +427,7 @@ def measure(program: str, row: Row, folder: Path) -> bool:
     print(f"{row.name}:")
     for size, cost in zip(row.sizes, costs):
         print(f"  {size:>8,}  {cost.seconds:8.3f} s  {cost.bytes / 1e6:8.1f} MB")
+    comparison += time_of_gnu(row, folder)
     verdict = "ok" if is_within else "over"
     print(f"  exponents: time {time:.2f}, memory {memory:.2f}{comparison}: {verdict}", flush=True)
     return is_within
