@@ -47,7 +47,7 @@ as_roff() { as_replacement "${1//-/\\-}"; }
 
 add_programs() {
     local program
-    program=$("$root/tools/built.sh" units) || give_up 'there is no program to install'
+    program=$("$root/tools/built.sh" --static units) || give_up 'there is no program to install'
     add 755 "$program" "$prefix/bin/$name"
     add_edited 755 "$root/bin/qunits" "$prefix/bin/qunits" "s/^name=units .*/name=$name/"
     add_all 644 "$prefix/share/qunits" "$root/share/qunits/functions.sh" "$root/share/qunits/first.units"

@@ -11,8 +11,8 @@
 # its files. Two builds of the same sources are equal byte for byte, whatever the folder, the time and the umask;
 # SOURCE_DATE_EPOCH replaces the date.
 #
-# The programs contain code of crates of the Rattle kit. Their licences are read from the kit, so `rt` has to be on the
-# path. Exit status: 0 if all files were written, 1 if something is missing, 2 for wrong arguments.
+# The program is the released static one, which starts faster and needs no library of the system. The programs contain
+# code of crates of the Rattle kit. Their licences are read from the kit, so `rt` has to be on the path. Exit status: 0 if all files were written, 1 if something is missing, 2 for wrong arguments.
 set -eu
 script=$(readlink -f "${BASH_SOURCE[0]}")
 root=${script%/*/*}
@@ -92,6 +92,8 @@ kit_licences() {
 write_copyright() {
     printf 'exact units %s\n\n' "$version"
     cat "$root/COPYING.md"
+    printf '\n\nThe program %s contains code of the C library musl.\n\n' "$name"
+    cat "$root/tools/release/static/MUSL_LICENCE"
     printf '\n\nThe program was built by %s and contains code of the following crates of that kit.\n' \
         "$(field toolchain)"
     kit_licences "$1"
@@ -115,8 +117,9 @@ stage_files() {
         "$name" "$version" "$version" "$maintainer" "$(date -R -d "@$epoch")" \
         | gzip -9nc > "$share/doc/$name/changelog.Debian.gz"
     cat > "$share/lintian/overrides/$name" <<- END
-		# The program is the released one byte for byte, so that its checksum can be compared. Strip would change it.
-		$name: unstripped-binary-or-object [usr/bin/$name]
+		# The released program is linked statically so that it starts faster. It is installed byte for byte, so that its
+		# checksum can be compared.
+		$name: statically-linked-binary [usr/bin/$name]
 	END
     if [ "$units_why" ]; then
         echo "$name: unstripped-binary-or-object [usr/bin/units-why]" >> "$share/lintian/overrides/$name"
@@ -133,8 +136,8 @@ write_control() {
 		Architecture: amd64
 		Maintainer: $maintainer
 		Installed-Size: $(find "$stage/usr" -type f -printf '%s\n' | awk '{ n += int(($1 + 1023) / 1024) } END { print n }')
-		Depends: libc6 (>= 2.34)
-		Recommends: python3, rlwrap
+		${units_why:+Depends: libc6 (>= 2.34)
+		}Recommends: python3, rlwrap
 		Suggests: parallel, units
 		Section: utils
 		Priority: optional
@@ -181,6 +184,7 @@ build_tarball() {
     cat > "$top/tools/built.sh" <<- 'END'
 		#!/bin/sh
 		# Prints the path of a program of bin/: in this tarball they are built already.
+		if [ "$1" = --static ]; then shift; fi
 		case $1 in units_why) name=units-why ;; *) name=$1 ;; esac
 		cd "${0%/*}/.." && [ -x "bin/$name" ] && echo "$PWD/bin/$name"
 	END
@@ -205,7 +209,7 @@ version=$(heading_field 2)
 version=${version#units }
 if ! [[ $version =~ ^[0-9]+\.[0-9]+\.[0-9]+$ ]]; then fail "the .TH line of units.1 has no version"; fi
 epoch=${SOURCE_DATE_EPOCH:-$(date -d "$(heading_field 1)" +%s)}
-program=$root/release/units-x86_64-linux
+program=$root/release/units-x86_64-linux-static
 units_why=$("$root/tools/built.sh" units_why 2> /dev/null) || units_why=
 "$root/tools/release/release.sh" --check >&2 \
     || fail 'a package has the released program: make a release of these sources first'

@@ -74,6 +74,7 @@ count $?
 expect 'the first install' 0 '*files are installed under*/.local;*not on your PATH*--setup*' '(umask 077; $install)'
 expect 'the path is there' 0 '*installed*' 'PATH=$HOME/.local/bin:$PATH $install; PATH=$HOME/.local/bin:$PATH'
 expect 'units' 0 $'\t* 0.9144\n*' '$HOME/.local/bin/units yd m'
+expect '.. is the program for users' 0 '' 'cmp $HOME/.local/bin/units "$("$root/tools/built.sh" --static units)"'
 expect 'qunits' 0 $'\t* 96.56064\n*' '$HOME/.local/bin/qunits 60 mph to km/h'
 expect 'qunits by a link' 0 '96.56064' 'ln -s .local/bin/qunits $HOME/q; $HOME/q -t 60 mph to km/h; rm $HOME/q'
 expect 'a file of one'\''s own' 0 '*my.units' '$HOME/.local/bin/qunits --new'

@@ -27,8 +27,10 @@ cp -r "$root"/{bin,tools,examples,crates.txt} one/
 cp -r one two
 mkdir two/release
 cp "$program" two/release/units-x86_64-linux
+cp "$program" two/release/units-x86_64-linux-static
 {
     echo "program $(sha256sum < "$program" | cut -d ' ' -f 1)"
+    echo "static $(sha256sum < "$program" | cut -d ' ' -f 1)"
     echo "sources $(two/tools/release/release.sh --sources)"
 } > two/release/MADE_FROM
 
@@ -66,12 +68,17 @@ expect 'the release, again' 0 "$answer" '' "two/bin/units $yard"
 mv two/tools/built.sh two/tools/away.sh
 expect 'the release, at once' 0 "$answer" '' "two/bin/units $yard"
 mv two/tools/away.sh two/tools/built.sh
+expect 'the program for users' 0 $'release/units-x86_64-linux-static\n' '' 'sed -n 2p two/crates/units/out/current'
+expect '.. and that for checks' 0 "$folder/two/release/units-x86_64-linux"$'\n' '' 'two/tools/built.sh units'
 expect 'from another folder' 0 "$answer" '' 'cd two/examples && ../bin/units --exact -f first.units yd m'
 ln -s two/bin/units link
 expect 'by a link' 0 "$answer" '' "./link $yard"
 expect 'words as they are' 3 '' 'units: no file: a  \* b' 'two/bin/units -f "a  * b" m m'
 cp -r two three
 expect 'a copy with new times' 0 "$answer" '' "three/bin/units $yard"
+rm three/release/units-x86_64-linux-static
+sed -i '/^static /d' three/release/MADE_FROM
+expect 'a release without a static program' 0 "$answer" '' "three/bin/units $yard"
 chmod -R a-w three
 as_other=
 if [ "$(id -u)" = 0 ]; then as_other="$(command -v setpriv) --reuid=65534 --regid=65534 --clear-groups"; fi

@@ -83,7 +83,7 @@ check_lintian() {
 }
 
 check_contents() {
-    local unpacked=$folder/unpacked released=$root/release/units-x86_64-linux
+    local unpacked=$folder/unpacked released=$root/release/units-x86_64-linux-static
     dpkg-deb -R "$deb" "$unpacked"
     expect 'the program is the released one' 0 "$(cmp "$unpacked/usr/bin/exact-units" "$released" >&2; echo $?)"
     expect 'the programs' "exact-units qunits units-lint${units_why:+ units-why}" \
@@ -92,9 +92,13 @@ check_contents() {
     expect 'all belongs to root' '' "$(dpkg-deb -c "$deb" | awk '$2 != "root/root"')"
     expect 'nobody else may write' '' "$(dpkg-deb -c "$deb" | grep '^.....w\|^........w')"
     expect 'the checksums of the files' 0 "$(cd "$unpacked" && md5sum --quiet -c DEBIAN/md5sums >&2; echo $?)"
-    expect 'the C library that is needed' GLIBC_2.34 "$(grep -ao 'GLIBC_[0-9.]*' "$released" | sort -V | tail -n 1)"
+    expect 'no C library is needed by the program' '' "$(grep -ao 'GLIBC_[0-9.]*' "$released")"
+    expect 'and GLIBC_2.34 at most by units-why' "${units_why:+GLIBC_2.34}" \
+        "$(if [ "$units_why" ]; then grep -ao 'GLIBC_[0-9.]*' "$units_why" | sort -V | tail -n 1; fi)"
+    expect 'the packages that it depends on' "${units_why:+libc6 (>= 2.34)}" "$(dpkg-deb -f "$deb" Depends)"
     expect 'the licence of each crate' '' "$(for crate in clap csv memchr smallvec strsim; do
         grep -q -- "--- The crate $crate of" "$unpacked/usr/share/doc/exact-units/copyright" || echo "$crate"; done)"
+    expect 'the licence of musl' 1 "$(grep -c 'Rich Felker' "$unpacked/usr/share/doc/exact-units/copyright")"
     if dpkg -L units > /dev/null 2>&1; then
         expect 'no file of the package units' '' "$(cd "$unpacked" && find usr -not -type d -printf '/%p\n' \
             | grep -Fxf <(dpkg -L units))"
@@ -168,11 +172,11 @@ case ${1-} in
     *) sed -n '2,/^set/s/^# \{0,1\}//p' "$script" | sed '$d'; exit 2 ;;
 esac
 if ! command -v dpkg-deb > /dev/null || ! command -v rt > /dev/null; then
-    skip 25 'dpkg-deb or the kit (rt) is absent'
+    skip 28 'dpkg-deb or the kit (rt) is absent'
     finish
 fi
 if ! "$root/tools/release/release.sh" --check > /dev/null; then
-    skip 25 'the released program is not of the present sources, so no package can be built'
+    skip 28 'the released program is not of the present sources, so no package can be built'
     finish
 fi
 check_equal_builds
