@@ -13,6 +13,7 @@ from __future__ import annotations
 
 import os
 import re
+import resource
 import shutil
 import subprocess
 import sys
@@ -153,11 +154,22 @@ def check_all() -> tuple[Result, list[str]]:
     print("About 200 processor minutes from nothing (two hours on four processors), 10 if proofs are kept", flush=True)
     total = prove(ROOT, [], result_of_proofs)
     failures = ["proofs"] if total.failed else []
+    minutes = [processor_minutes()]
     checks = quick_checks() + [check for check in AFTER_PROOFS if check.exists()]
     for group, workers in ((ALONE, 1), (checks, WORKERS)):
         result, names = run_all(group, workers)
         total, failures = total + result, failures + names
+        minutes.append(processor_minutes())
+    proofs, edits, others = (after - before for before, after in zip([0.0, *minutes], minutes))
+    print(f"processor minutes: {proofs:.1f} for proofs, {edits:.1f} for must-fail edits, {others:.1f} for other checks")
+    print(f"processor minutes in all: {minutes[-1]:.1f}")
     return total, failures
+
+
+def processor_minutes() -> float:
+    """The processor time of all processes that ended so far below this one."""
+    usage = resource.getrusage(resource.RUSAGE_CHILDREN)
+    return (usage.ru_utime + usage.ru_stime) / 60
 
 
 def result_of_proofs(last: str, status: int) -> Result:
