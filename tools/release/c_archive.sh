@@ -79,7 +79,7 @@ for name in "${direct[@]}"; do
     words+=(--extern "$name=$path")
 done
 for name in "${below[@]}"; do words+=(-L "dependency=$root/crates/$name/out/rlib"); done
-words+=(--antt-project "$kit/rattle/logic/antt-project.json" --logic-built "$kit/logic_built" --jobs 2)
+words+=(--antt-project "$kit/rattle/logic/antt-project.json" --logic-built "$kit/logic_built" --jobs 1)
 
 rm -f "$archive" "$made_from"
 cd "$root/crates/$crate"
