@@ -1,17 +1,14 @@
 //! Converts between units by the definitions of a file, or by the built-in ones.
 #![tactic(auto)]
 
-mod environment;
-
 ghost use Rattle.std.specs.Prelude.{◌≡◌, ◌<◌};
 ghost use Rattle.units_run.specs.Endings.{IsStatedRunEnd, RunMayEndBy};
 ghost use Rattle.units_run.specs.Laws.{HasRunStatus};
 
-use environment::{collect_vars, collect_words};
 use std::marker::Brand;
 use std::process::ExitCode;
 use std::sync::ledger::{Blank, Ledger};
-use units_io::{DirFiles, StdSink, StdSource, Steps, Texts, Vars};
+use units_io::{DirFiles, StdSink, StdSource, Steps, Texts, Vars, collect_vars, collect_words};
 use units_run::{Status, status_law, units_main};
 
 // Runs on the system's streams and files, with a count of steps that nobody reads. The words alone decide which endings

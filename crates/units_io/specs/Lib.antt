@@ -1,6 +1,7 @@
 pub mod Blanks
 pub mod Bytes
 pub mod Counts
+pub mod Environment
 pub mod Faults
 pub mod FetchResults
 pub mod FileMap

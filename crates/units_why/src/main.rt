@@ -10,7 +10,6 @@ mod captures;
 mod decimal;
 mod definitions;
 mod entries;
-mod environment;
 mod evaluator;
 mod fault_step;
 mod finding;
@@ -56,14 +55,13 @@ mod writer;
 
 ghost use Rattle.std.specs.Prelude.{◌≡◌, ◌<◌};
 
-use environment::{collect_vars, collect_words};
 use ports::Ports;
 use run::run;
 use status::Status;
 use std::marker::Brand;
 use std::process::ExitCode;
 use std::sync::ledger::{Blank, Ledger};
-use units_io::{DirFiles, StdSink, Steps, Texts, Vars};
+use units_io::{DirFiles, StdSink, Steps, Texts, Vars, collect_vars, collect_words};
 
 // Runs on the system's streams and files, with a step counter that nobody reads.
 fn run_on<L: Ledger>(rt: HostRuntime, words: &Texts, vars: &Vars, blank: Blank) -> Status

@@ -1,7 +1,7 @@
 use Rattle.std.proofs.Common.{refl}
 use Rattle.std.specs.Str.{chars, is_utf8}
 use Rattle.std.specs.Char.{encode_utf8}
-use Rattle.units.proofs.environment.entries_law.Goals as goal
+use Rattle.units_io.proofs.laws.process_variables_law.Goals as goal
 
 pub returns : goal.returns
 unfolding is_utf8 chars encode_utf8
