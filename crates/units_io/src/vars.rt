@@ -12,9 +12,14 @@ use std::marker::Model;
 
 /// An ordered list of pairs of a name and its value, in which the names are distinct. A lookup uses no memory, and its
 /// time does not depend on the number of pairs.
-#[derive(Drop)]
 pub struct Vars {
     map: IndexMap<Vec<u8>, Text, HashSeed>,
+}
+
+impl Drop for Vars {
+    fn drop(self) {
+        let Vars { map: _ } = self;
+    }
 }
 
 impl Model for Vars {
@@ -57,6 +62,22 @@ impl Vars {
     {
         let (name, value) = item;
         self.set(alloc, name, value)
+    }
+
+    /// Appends a copy of a pair whose name is new. On an error nothing changes.
+    pub(crate) fn push_copy(
+        &mut self,
+        alloc: Global,
+        name: &[u8],
+        value: &[u8],
+    ) -> Result<(), AllocError>
+        requires { HasNoTextOfName self.old name.now }
+        ensures ok { OnOk result (self.new ≡ self.old ++ (name.now, value.now) ∷ []) }
+        ensures err { OnErr result (self.new ≡ self.old) }
+    {
+        let name = Text::from_bytes(alloc, name)?;
+        let value = Text::from_bytes(alloc, value)?;
+        self.push(alloc, (name, value))
     }
 
     /// Sets the value of a name: replaces the current value if the name has one, and appends a new pair otherwise. On
@@ -106,11 +127,18 @@ impl Vars {
     pub fn copy(&self, alloc: Global) -> Result<Vars, AllocError>
         ensures { IfOk result (λ copy. copy ≡ self.now) }
     {
-        let mut copy = Vars::with_seed(alloc, self.table_seed());
+        let mut copy = Vars::with_capacity(alloc, self.len(), self.table_seed())?;
         for (name, value) in &self.map {
-            let name = Text::from_bytes(alloc, name.as_slice())?;
-            copy.push(alloc, (name, value.copy(alloc)?))?;
+            copy.push_copy(alloc, name.as_slice(), value.as_bytes())?;
         }
         Ok(copy)
+    }
+
+    // Creates an empty list with memory for this number of pairs, whose table uses this seed.
+    fn with_capacity(alloc: Global, len: usize, seed: HashSeed) -> Result<Vars, AllocError>
+        ensures { IfOk result (λ vars. vars ≡ []) }
+    {
+        let map = IndexMap::with_capacity_and_hasher(alloc, len, seed)?;
+        Ok(Vars { map })
     }
 }

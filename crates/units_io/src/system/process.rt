@@ -121,7 +121,5 @@ fn push_new(alloc: Global, vars: &mut Vars, name: &[u8], value: &[u8]) -> Result
     if vars.value(name).is_some() {
         return Ok(());
     }
-    let name = Text::from_bytes(alloc, name)?;
-    let value = Text::from_bytes(alloc, value)?;
-    vars.push(alloc, (name, value))
+    vars.push_copy(alloc, name, value)
 }
