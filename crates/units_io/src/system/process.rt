@@ -1,5 +1,5 @@
 //! The words of the command line and the variables of the environment, as bytes.
-ghost use Rattle.std.specs.Prelude.{◌≡◌, OnOk, OnErr};
+ghost use Rattle.std.specs.Prelude.{◌≡◌, ◌++◌, ◌∷◌, [], OnOk, OnErr};
 ghost use Rattle.std.specs.Io.{WritesAtMost};
 ghost use Rattle.std.specs.Str.{is_utf8};
 ghost use Rattle.units_io.specs.Environment as spec;
@@ -29,22 +29,31 @@ enum Place {
 
 /// Returns the command-line words after the program's name.
 pub fn collect_words<R: Env>(rt: &R, alloc: Global) -> Result<Texts, AllocError> {
-    let mut words = Texts::new(alloc);
     let mut buffer = vec![in alloc; 0u8; USUAL_LEN]?;
+    let mut words = Texts::new(alloc);
     for i in 1..usize::MAX {
         let Some(word) = read_entry(rt, Place::Word(i), &mut buffer)? else {
             break;
         };
-        words.push(alloc, Text::from_bytes(alloc, word)?)?;
+        push_word(alloc, &mut words, word)?;
     }
     Ok(words)
+}
+
+// Appends a copy of this word.
+fn push_word(alloc: Global, words: &mut Texts, word: &[u8]) -> Result<(), AllocError>
+    ensures ok { OnOk result (words.new ≡ words.old ++ word.now ∷ []) }
+    ensures err { OnErr result (words.new ≡ words.old) }
+{
+    let word = Text::from_bytes(alloc, word)?;
+    words.push(alloc, word)
 }
 
 /// Returns the variables of the environment that are UTF-8. If a name occurs twice, the first one counts. The table of
 /// the variables has a random seed, which the tables of the run inherit.
 pub fn collect_vars<R: Env + RandomSource>(rt: &R, alloc: Global) -> Result<Vars, AllocError> {
-    let mut vars = Vars::with_seed(alloc, HashSeed::random(rt));
     let mut buffer = vec![in alloc; 0u8; USUAL_LEN]?;
+    let mut vars = Vars::with_seed(alloc, HashSeed::random(rt));
     for i in 0..usize::MAX {
         let Some(entry) = read_entry(rt, Place::Variable(i), &mut buffer)? else {
             break;
