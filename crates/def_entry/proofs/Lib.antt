@@ -5,7 +5,9 @@ pub mod CutTexts
 pub mod Examples
 pub mod Fronts
 pub mod KeyTexts
+pub mod ListDirectives
 pub mod Meanings
+pub mod OptionOrders
 pub mod OptionRuns
 pub mod PairSteps
 pub mod Parts

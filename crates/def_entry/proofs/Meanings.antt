@@ -257,6 +257,10 @@ ok-inverse-body : (name : List ℕ) (text : Option (List ℕ)) (tree : Option Sy
 ok-inverse-body name None tree is = ap Ok (sym is)
 ok-inverse-body name (Some text) tree is = entry-tree-some (Some name) text tree is
 
+-- equal results have equal meanings
+same_entry_definition : (x y : What) → ◌≡◌ {A = Result What EntryFault} (Ok x) (Ok y) → x ≡ y
+same_entry_definition x y e = cc
+
 -- the definition of a function, given its trees
 abbrev function_def : Form → Option Syntax × Option Syntax → Syntax → Option Syntax → FunctionDef
 function_def form units forward inverse = record {
@@ -298,10 +302,7 @@ function-entry-ok name parameter form what e =
       inverse = inverse-body-ok name form.inverse three.0 three.1;
     } in
     subst (IsEntryDefinitionOf name (FunctionForm parameter form))
-    (same (Function (function_def form one.0 two.0 three.0)) what three.2) said
-  where
-    same : (x y : What) → ◌≡◌ {A = Result What EntryFault} (Ok x) (Ok y) → x ≡ y
-    same x y e = cc
+    (same_entry_definition (Function (function_def form one.0 two.0 three.0)) what three.2) said
 
 -- the meaning of the form of a function is read
 ok-function-entry : (name parameter : List ℕ) (form : Form) (f : FunctionDef) → IsFunctionEntryOf name parameter form f
@@ -348,10 +349,6 @@ ok-list-entry (part ∷ parts) [] is = absurd is
 ok-list-entry (part ∷ parts) (t ∷ trees) is =
     ap (λ r. r >>= (λ tree. list_trees parts >>= (λ trees. Ok (tree ∷ trees)))) (ok-entry-tree None part t is.0)
     ∙ ap (λ r. r >>= (λ trees. Ok (t ∷ trees))) (ok-list-entry parts trees is.1)
-
--- equal results have equal meanings
-same_entry_definition : (x y : What) → ◌≡◌ {A = Result What EntryFault} (Ok x) (Ok y) → x ≡ y
-same_entry_definition x y e = cc
 
 -- the definition read from a form is its meaning
 pub entry-definition-ok : (name : List ℕ) (form : WrittenEntryForm) (what : What) → meaning name form ≡ Ok what

@@ -1,12 +1,10 @@
 -- Sequences of options are read the way they are written.
 use Rattle.std.proofs.Common.{◌≡◌, ◌<◌, ◌≤◌, ◌+◌, ◌&&◌, ◌∷◌, [], ◌++◌, ℕ, zero, suc, List, Bool, true, false, not}
 use Rattle.std.proofs.Common.{length, Option, Some, None, if◌then◌else◌, refl, sym, ap, ◌∙◌, subst, arith}
-use Rattle.std.proofs.Common.{length-append}
 use Rattle.std.specs.List.{cons_option, filter_map, list_all}
 use Rattle.std.specs.Option.{is_some}
 use Rattle.std.proofs.lemmas.Bool.{and_parts}
 use Rattle.std.proofs.lemmas.List.{append-nil}
-use Rattle.std.proofs.lemmas.List.Elements.{filter_map-append}
 use Rattle.std.proofs.lemmas.Option.{some_pair_parts}
 use Rattle.units_io.specs.Blanks.{is_blank_text_byte}
 use Rattle.def_lines.specs.Blanks.{after_blanks}
@@ -14,7 +12,7 @@ use Rattle.def_lines.specs.Parts.{begins_without_blank}
 use Rattle.def_lines.proofs.TrimmedTexts.{begins_without_blank-after_blanks}
 use Rattle.def_entry.specs.declared.options.Choice.{Choice}
 use Rattle.def_entry.specs.OptionGrammar.{WrittenOptionInterval, WrittenOption, UnitsOption, DomainOption, RangeOption}
-use Rattle.def_entry.specs.OptionGrammar.{NoErrorOption, WrittenOptions, NoOption, NextOption, AnyOptionOrderLaw}
+use Rattle.def_entry.specs.OptionGrammar.{NoErrorOption, WrittenOptions, NoOption, NextOption}
 use Rattle.def_entry.specs.OptionGrammar.{AreOptions, OptionsLaw, are_complete_options, domain_of_option}
 use Rattle.def_entry.specs.OptionGrammar.{option_as_list, option_has_ended, is_complete_option, is_option_interval}
 use Rattle.def_entry.specs.OptionGrammar.{no_error_of_option, options_in_order, spelled_option, spelled_options}
@@ -28,7 +26,7 @@ use Rattle.def_entry.proofs.WrittenOptions.{option_choice-at, option_text_after_
 use Rattle.def_entry.proofs.WrittenOptions.{option_value-at, option_value-is, options-have-ended}
 
 -- `noerror`, as an optional value
-abbrev flag : Bool → Option Bool
+abbrev pub flag : Bool → Option Bool
 flag b = if b then Some true else None
 
 -- options that follow the earlier ones
@@ -320,7 +318,7 @@ options_are_counted_by_kind (NextOption blanks x xs) rest whole =
     go NoErrorOption here count = omega arith
 
 -- a list of at most one value has at most one item
-few_option_values : {A : Type 0} (o : Option A) (xs : List A) → xs ≡ option_as_list o → length xs ≤ 1
+pub few_option_values : {A : Type 0} (o : Option A) (xs : List A) → xs ≡ option_as_list o → length xs ≤ 1
 few_option_values None xs e = let n : length xs ≡ 0 = ap length e in omega arith
 few_option_values (Some x) xs e = let n : length xs ≡ 1 = ap length e in omega arith
 
@@ -371,38 +369,3 @@ options_read text rest o = (to, from) where
       ∙ written-options-are-read is.written_options (suc most_options) empty_options o rest is.well_formed
       is.ends_options said
       room
-
--- exchanging two options does not change their meaning
-
--- after an exchange of two options, the values of each kind are the same
-exchanged_options_have_same_values : {A : Type 0} (h : WrittenOption → Option A) (front : List WrittenOption)
-    (x y : WrittenOption)
-    (back : List WrittenOption) (v : Option A)
-    → filter_map h (front ++ (x ∷ y ∷ back)) ≡ option_as_list v
-    → filter_map h (front ++ (y ∷ x ∷ back)) ≡ option_as_list v
-exchanged_options_have_same_values {A = A} h front x y back v e = filter_map-append h front (y ∷ x ∷ back)
-    ∙ go (h x) (h y) (filter_map h front) (filter_map h back) (sym (filter_map-append h front (x ∷ y ∷ back)) ∙ e)
-  where
-    long : (before : List A) (a b : A) (text_after_choice : List A)
-        → before ++ (a ∷ b ∷ text_after_choice) ≡ option_as_list v
-        → ⊥
-    long before a b text_after_choice e =
-        let n : length (before ++ (a ∷ b ∷ text_after_choice)) ≤ 1 =
-        few_option_values v (before ++ (a ∷ b ∷ text_after_choice)) e in
-        omega (arith, length-append before (a ∷ b ∷ text_after_choice))
-
-    go : (p q : Option A) (before text_after_choice : List A)
-        → before ++ cons_option p (cons_option q text_after_choice) ≡ option_as_list v
-        → before ++ cons_option q (cons_option p text_after_choice) ≡ option_as_list v
-    go None q before text_after_choice e = e
-    go (Some a) None before text_after_choice e = e
-    go (Some a) (Some b) before text_after_choice e = absurd (long before a b text_after_choice e)
-
--- the law of any order
-pub any_option_order : AnyOptionOrderLaw
-any_option_order front x y back o is = record {
-  units = exchanged_options_have_same_values units_of_option front x y back o.units is.units;
-  domain = exchanged_options_have_same_values domain_of_option front x y back o.domain is.domain;
-  range = exchanged_options_have_same_values range_of_option front x y back o.range is.range;
-  no_error = exchanged_options_have_same_values no_error_of_option front x y back (flag o.no_error) is.no_error;
-}

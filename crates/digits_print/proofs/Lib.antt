@@ -1,4 +1,5 @@
 pub mod Backs
+pub mod DecimalGrids
 pub mod DigitSteps
 pub mod EndZeros
 pub mod ExactTexts
