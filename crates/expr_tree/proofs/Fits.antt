@@ -1,9 +1,10 @@
 -- The tokens after a derivation, if all tokens fit.
-use Rattle.std.proofs.Common.{◌≡◌, ℕ, suc, ◌-◌, true, List, [], ◌∷◌, refl, subst, arith, eqb-true}
+use Rattle.std.proofs.Common.{◌≡◌, ℕ, suc, ◌-◌, true, List, [], ◌∷◌, None, refl, subst, arith, eqb-true}
 use Rattle.std.proofs.lemmas.Bool.{and_parts}
 use Rattle.expr_tree.specs.Rules.{WantsOperand, EndsOperand, EndsNumeral, tokens_fit}
 use Rattle.expr_tree.specs.Tokens.{Token, Numeral, Word, WordWithPower, Head, Root, Bar, Tilde, Open, Close}
-use Rattle.expr_tree.specs.Front.{tokens_stop, tokens_begin_operand, token_follows_sum, token_follows_atom}
+use Rattle.expr_tree.specs.Front.{first_token_sign, tokens_stop, tokens_begin_operand, token_follows_sum}
+use Rattle.expr_tree.specs.Front.{token_follows_atom}
 
 -- tokens that begin an operand and fit after an operand also fit where an operand is wanted
 pub operand_tokens_fit_if_wanted : (k : ℕ) (ts : List Token) → tokens_begin_operand ts ≡ true
@@ -32,6 +33,20 @@ operand_tokens_fit_after_operand k (Root n ∷ ts) b h = h
 operand_tokens_fit_after_operand k (Tilde ∷ ts) b h = h
 operand_tokens_fit_after_operand k (Open ∷ ts) b h = h
 operand_tokens_fit_after_operand k (t ∷ ts) b h = cc
+
+-- tokens that fit where an operand is wanted begin one, or begin with a sign
+pub unsigned_tokens_begin_operand : (k : ℕ) (ts : List Token) → tokens_fit WantsOperand k ts ≡ true
+    → first_token_sign ts ≡ None
+    → tokens_begin_operand ts ≡ true
+unsigned_tokens_begin_operand k [] h e = cc
+unsigned_tokens_begin_operand k (Numeral n ∷ ts) h e = refl
+unsigned_tokens_begin_operand k (Word w ∷ ts) h e = refl
+unsigned_tokens_begin_operand k (WordWithPower w d ∷ ts) h e = refl
+unsigned_tokens_begin_operand k (Head w ∷ ts) h e = refl
+unsigned_tokens_begin_operand k (Root n ∷ ts) h e = refl
+unsigned_tokens_begin_operand k (Tilde ∷ ts) h e = refl
+unsigned_tokens_begin_operand k (Open ∷ ts) h e = refl
+unsigned_tokens_begin_operand k (t ∷ ts) h e = cc
 
 -- tokens that fit after any operand fit after a numeral
 pub tokens_fit_after_numeral : (k : ℕ) (ts : List Token) → tokens_fit EndsOperand k ts ≡ true

@@ -1,10 +1,14 @@
 -- Each rule of the grammar, given the tokens at the front.
-use Rattle.std.proofs.Common.{◌≡◌, ℕ, suc, true, false, List, [], ◌∷◌, Option, None, refl, ◌∙◌, ap, subst}
+use Rattle.std.proofs.Common.{◌≡◌, ℕ, suc, true, false, List, [], ◌∷◌, Option, None, Result, Ok, Err, refl, ◌∙◌}
+use Rattle.std.proofs.Common.{ap, subst}
+use Rattle.std.specs.declared.alloc.AllocError.{AllocError}
 use Rattle.frac128.specs.Decimals.{NumeralDecimal}
 use Rattle.expr_tree.specs.declared.operator.Sign.{Sign}
 use Rattle.expr_tree.specs.declared.operator.Sign.TheVariants as signs
+use Rattle.expr_tree.specs.declared.token.Token.{Token as Made}
+use Rattle.expr_tree.specs.declared.tree.Tree.{Tree}
 use Rattle.expr_tree.specs.Front.{IsTreeAtFront, JuxtapositionTreeAt, PowerTreeAt, ExponentTreeAt, AtomTreeAt}
-use Rattle.expr_tree.specs.Front.{IsSumInParens, first_token_is_caret, first_token_denominator, tokens_stop}
+use Rattle.expr_tree.specs.Front.{IsSumInParens, IsTreeReadAt, first_token_is_caret, first_token_denominator, tokens_stop}
 use Rattle.expr_tree.specs.Front.{token_follows_sum, token_follows_power, token_follows_atom}
 use Rattle.expr_tree.specs.Grammar.{Signed, Bare, Raised, SignedExponent, ExponentOf, NumeralAtom, BarAtom, WordAtom}
 use Rattle.expr_tree.specs.Grammar.{PowerAtom, CallAtom, InverseAtom, RootAtom, GroupAtom}
@@ -186,6 +190,13 @@ power_tokens_are_exponent b k x y e p =
           p.stop;
       fit = p.fit;
     }
+
+-- what a power reads at a place is an exponent
+pub power_read_is_exponent : (b : Option (List ℕ)) (k : ℕ) (ts : List Made) (at : ℕ) (r : Result (Tree × ℕ) AllocError)
+    → IsTreeReadAt (PowerTreeAt b k) ts at r
+    → IsTreeReadAt (ExponentTreeAt b k) ts at r
+power_read_is_exponent b k ts at (Ok x) p = (power_tokens_are_exponent b k _ _ _ p.0, p.1, p.2)
+power_read_is_exponent b k ts at (Err e) p = p
 
 -- an exponent with a sign in front is an exponent
 pub signed_tokens_are_exponent : (b : Option (List ℕ)) (k : ℕ) (s : Sign) (x y z : List Token) (a e : Syntax)

@@ -1,6 +1,6 @@
 -- The tokens from a place on, and the token there.
 use Rattle.std.proofs.Common.{◌≡◌, ℕ, suc, ◌+◌, ◌<◌, ◌≤◌, Bool, true, false, List, [], ◌∷◌, length, map, get_or, Some}
-use Rattle.std.proofs.Common.{refl, sym, ◌∙◌, ap, subst, arith, ltb-true, ltb-false, nat_lt}
+use Rattle.std.proofs.Common.{refl, sym, ◌∙◌, ap, subst, arith, add-one, ltb-true, ltb-false, nat_lt}
 use Rattle.std.proofs.Math.ListN.{drop_of_length-le}
 use Rattle.std.proofs.lemmas.List.{drop_more}
 use Rattle.expr_tree.specs.declared.operator.RootKind.{RootKind}
@@ -16,7 +16,7 @@ use Rattle.expr_tree.specs.Grammar.{sign_token, scale_token}
 use Rattle.expr_tree.specs.Rules.{WantsHead, WantsOpen, WantsOperand, EndsOperand, tokens_fit}
 use Rattle.frac128.specs.Decimals.{NumeralDecimal}
 use Rattle.expr_tree.specs.TokenViews.{token_view}
-use Rattle.expr_tree.specs.Tokens.{Token, Numeral, Root, Plus, Minus, Star, Slash, Bar, Caret, Open, Close}
+use Rattle.expr_tree.specs.Tokens.{Token, Numeral, Head, Root, Plus, Minus, Star, Slash, Bar, Caret, Open, Close}
 use Rattle.expr_tree.proofs.Fits.{close_paren_after_sum}
 
 -- the tokens from a place on begin with the one there
@@ -240,3 +240,31 @@ bar_tokens_at_place ts at n d l is h =
       is =
           is ∙ ap (λ y. Numeral n ∷ y) (p.1 ∙ ap (λ i. Bar ∷ Numeral d ∷ tokens_from ts i) next);
     }
+
+-- after a head, an operand is wanted, one parenthesis deeper
+pub head_token_wants_operand : (ts : List Made) (at k : ℕ) (w : List ℕ) (d m : Made) → token_view m ≡ Head w
+    → at < length ts
+    → get_or ts at d ≡ m → tokens_fit WantsOperand k (tokens_from ts at) ≡ true
+    → tokens_fit WantsOperand (k + 1) (tokens_from ts (at + 1)) ≡ true
+head_token_wants_operand ts at k w d m head l is h =
+    rw (add-one k)
+    (subst (λ y. tokens_fit WantsOperand k y ≡ true)
+    (read_token_at_place ts at d m l is ∙ ap (λ (t : Token). t ∷ tokens_from ts (at + 1)) head) h)
+
+-- after a `(`, an operand is wanted, one parenthesis deeper
+pub open_token_wants_operand : (ts : List Made) (at k : ℕ) (d : Made) → at < length ts → get_or ts at d ≡ made.Open
+    → tokens_fit WantsOperand k (tokens_from ts at) ≡ true
+    → tokens_fit WantsOperand (k + 1) (tokens_from ts (at + 1)) ≡ true
+open_token_wants_operand ts at k d l is h =
+    rw (add-one k)
+    (subst (λ y. tokens_fit WantsOperand k y ≡ true) (read_token_at_place ts at d made.Open l is) h)
+
+-- after a head that is wanted, an operand is wanted, one parenthesis deeper
+pub wanted_head_token_wants_operand : (ts : List Made) (at k : ℕ) (w : List ℕ) (d m : Made) → token_view m ≡ Head w
+    → at < length ts
+    → get_or ts at d ≡ m → tokens_fit WantsHead k (tokens_from ts at) ≡ true
+    → tokens_fit WantsOperand (k + 1) (tokens_from ts (at + 1)) ≡ true
+wanted_head_token_wants_operand ts at k w d m head l is h =
+    rw (add-one k)
+    (subst (λ y. tokens_fit WantsHead k y ≡ true)
+    (read_token_at_place ts at d m l is ∙ ap (λ (t : Token). t ∷ tokens_from ts (at + 1)) head) h)

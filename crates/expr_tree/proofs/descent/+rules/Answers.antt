@@ -1,41 +1,32 @@
-use Rattle.std.proofs.Common.{◌≡◌, ◌<◌, ◌≤◌, ◌∷◌, true, false, Some, None, length, ℕ, Result, Ok, Err, IfOk, is_some}
-use Rattle.std.proofs.Common.{Option, List, [], ◌++◌, refl, sym, ap, subst, ◌∙◌, arith, add-one}
+use Rattle.std.proofs.Common.{◌≡◌, ◌∷◌, true, false, Some, None, is_some, Option, [], ◌++◌, refl, sym}
+use Rattle.std.proofs.Common.{ap, subst, ◌∙◌, arith, add-one}
 use Rattle.std.specs.Option.{option_copied}
-use Rattle.std.specs.declared.alloc.AllocError.{AllocError}
-use Rattle.expr_tree.specs.Front.{SumTreeAt, PowerTreeAt, ExponentTreeAt, tokens_from}
+use Rattle.expr_tree.specs.Front.{SumTreeAt, tokens_from}
 use Rattle.expr_tree.specs.Grammar.{word_syntax}
+use Rattle.expr_tree.specs.Rules.{WantsOperand, tokens_fit}
 use Rattle.expr_tree.specs.TokenViews.{power_token_numeral}
 use Rattle.expr_tree.specs.Syntax as tree
 use Rattle.expr_tree.specs.Tokens.{Tilde}
 use Rattle.expr_tree.specs.Trees.{syntax}
 use Rattle.expr_tree.specs.declared.operator.Scale.TheVariants.{Multiply}
 use Rattle.expr_tree.specs.declared.operator.Sign.TheVariants as signs
-use Rattle.expr_tree.specs.declared.token.Token.{Token}
-use Rattle.expr_tree.specs.declared.tree.Tree.{Tree}
+use Rattle.expr_tree.proofs.Fits.{unsigned_tokens_begin_operand}
 use Rattle.expr_tree.proofs.Fronts.{word_token_is_atom, word_power_token_is_atom, bar_tokens_are_atom}
 use Rattle.expr_tree.proofs.Fronts.{numeral_token_is_atom, call_tokens_are_atom, inverse_tokens_are_atom}
 use Rattle.expr_tree.proofs.Fronts.{root_tokens_are_atom, group_tokens_are_atom, bare_atom_tokens_are_power}
-use Rattle.expr_tree.proofs.Fronts.{raised_atom_tokens_are_power, power_tokens_are_exponent}
+use Rattle.expr_tree.proofs.Fronts.{raised_atom_tokens_are_power, power_read_is_exponent}
 use Rattle.expr_tree.proofs.Fronts.{signed_tokens_are_exponent, signed_tokens_are_juxtaposition}
 use Rattle.expr_tree.proofs.Fronts.{sign_token_wants_operand, caret_token_wants_operand, sum_before_close_is_in_parens}
 use Rattle.expr_tree.proofs.Stands.{read_token_at_place, operand_has_token, root_tokens_at_place, bar_tokens_at_place}
 use Rattle.expr_tree.proofs.Stands.{wanted_head_has_token, close_paren_at_place, sign_token_at_place}
-use Rattle.expr_tree.proofs.Stands.{scale_token_at_place, caret_token_at_place}
+use Rattle.expr_tree.proofs.Stands.{scale_token_at_place, caret_token_at_place, head_token_wants_operand}
+use Rattle.expr_tree.proofs.Stands.{open_token_wants_operand, wanted_head_token_wants_operand}
 use Rattle.expr_tree.proofs.Steps.{one_parsed_member, first_parsed_member, next_parsed_member, all_parsed_members}
 use Rattle.expr_tree.proofs.Steps.{one_parsed_factor, first_parsed_factor, next_parsed_factor, all_parsed_factors}
 use Rattle.expr_tree.proofs.Steps.{parsed_factor_wants_operand, one_parsed_term, first_parsed_term, next_parsed_term}
 use Rattle.expr_tree.proofs.Steps.{all_parsed_terms, parsed_term_wants_operand}
 use Rattle.expr_tree.proofs.Views.{syntax_of_number, syntax_of_juxtaposed, syntax_of_product, syntax_of_sum}
 use Rattle.expr_tree.proofs.descent.+rules.Goals as goal
-
--- the result of a power, as the result of an exponent
-exponent_returns : (b : Option (List ℕ)) (k : ℕ) (ts : List Token) (at : ℕ) (r : Result (Tree × ℕ) AllocError)
-    → IfOk r (λ x. PowerTreeAt b k (tokens_from ts at) (syntax x.0) (tokens_from ts x.1) × (at < x.1)
-    × (x.1 ≤ length ts))
-    → IfOk r (λ x. ExponentTreeAt b k (tokens_from ts at) (syntax x.0) (tokens_from ts x.1) × (at < x.1)
-    × (x.1 ≤ length ts))
-exponent_returns b k ts at (Ok x) p = (power_tokens_are_exponent b k _ _ _ p.0, p.1, p.2)
-exponent_returns b k ts at (Err e) p = p
 
 no_some : {A : Type 0} (o : Option A) → is_some o ≡ false → o ≡ None
 no_some None h = refl
@@ -157,7 +148,7 @@ exponent_at-returns-in_ok-signed_tree-in-Some t c =
 
 pub exponent_at-returns-in-None : goal.exponent_at-returns-in-None
 exponent_at-returns-in-None t c =
-    exponent_returns (option_copied c.args.binder) c.args.opened c.args.tokens.now c.args.at c.power_at.result
+    power_read_is_exponent (option_copied c.args.binder) c.args.opened c.args.tokens.now c.args.at c.power_at.result
     c.power_at.ensures
 
 pub inverse_at-returns : goal.inverse_at-returns
@@ -341,3 +332,60 @@ product_at-returns t c = (
   c.loop-scale.invariant.moved,
   c.loop-scale.invariant.within,
 )
+
+pub juxtaposition_at-powers_at-requires : goal.juxtaposition_at-powers_at-requires
+juxtaposition_at-powers_at-requires t c =
+    let none = sym c.sign_at.ensures ∙ c.in-None.is in (
+      omega arith,
+      (c.requires.deep, (c.requires.fit, unsigned_tokens_begin_operand c.args.opened _ c.requires.fit none)),
+    )
+
+pub exponent_at-power_at-requires : goal.exponent_at-power_at-requires
+exponent_at-power_at-requires t c =
+    let none = sym c.sign_at.ensures ∙ c.in-None.is in (
+      omega arith,
+      (c.requires.deep, (c.requires.fit, unsigned_tokens_begin_operand c.args.opened _ c.requires.fit none)),
+    )
+
+pub atom_at-closed_sum_at-requires : goal.atom_at-closed_sum_at-requires
+atom_at-closed_sum_at-requires t c =
+    let l = operand_has_token c.args.tokens.now c.args.at c.requires.begun in (
+      omega (arith, l),
+      (
+        omega (arith, c.requires.deep),
+        head_token_wants_operand c.args.tokens.now c.args.at c.args.opened c.in-Head.word.now _ _ refl l c.in-Head.is
+            c.requires.fit,
+      ),
+    )
+
+pub atom_at-closed_sum_at-requires-in-Open : goal.atom_at-closed_sum_at-requires-in-Open
+atom_at-closed_sum_at-requires-in-Open t c =
+    let l = operand_has_token c.args.tokens.now c.args.at c.requires.begun in (
+      omega (arith, l),
+      (
+        omega (arith, c.requires.deep),
+        open_token_wants_operand c.args.tokens.now c.args.at c.args.opened _ l c.in-Open.is c.requires.fit,
+      ),
+    )
+
+pub atom_at-inverse_at-requires : goal.atom_at-inverse_at-requires
+atom_at-inverse_at-requires t c =
+    let l = operand_has_token c.args.tokens.now c.args.at c.requires.begun in (
+      omega (arith, l),
+      (
+        omega (arith, c.requires.deep),
+        subst (λ y. tokens_fit WantsOperand c.args.opened y ≡ true)
+            (read_token_at_place c.args.tokens.now c.args.at _ _ l c.in-Tilde.is) c.requires.fit,
+      ),
+    )
+
+pub inverse_at-closed_sum_at-requires : goal.inverse_at-closed_sum_at-requires
+inverse_at-closed_sum_at-requires t c =
+    let l = wanted_head_has_token c.args.tokens.now c.args.at c.args.opened c.requires.fit in (
+      omega (arith, l),
+      (
+        omega (arith, c.requires.deep),
+        wanted_head_token_wants_operand c.args.tokens.now c.args.at c.args.opened c.in-Head.word.now _ _ refl l
+            c.in-Head.is c.requires.fit,
+      ),
+    )
