@@ -15,6 +15,7 @@ pub mod PartLists
 pub mod Places
 pub mod PowerWords
 pub mod Says
+pub mod ShortWords
 pub mod SpelledTokens
 pub mod Stands
 pub mod Steps
