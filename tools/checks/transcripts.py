@@ -30,7 +30,7 @@ from pathlib import Path
 ROOT = Path(__file__).resolve().parents[2]
 TESTS = ROOT / "tests"
 MANUAL = ROOT / "share/man/man1"
-BUILT_IN = ROOT / "crates/units_run/src/built_in.rt"
+BUILT_IN = ROOT / "crates/deck/src/built_in.rt"
 LIBRARY = ROOT / "share/units/standard.units"
 BUILT = ROOT / "tools/built.sh"
 # The commands of bin/ other than units, each with the program that it runs.

@@ -1,5 +1,6 @@
 pub mod Active
 pub mod BlockExamples
+pub mod BuiltIn
 pub mod Changes
 pub mod CoveredLines
 pub mod Decks

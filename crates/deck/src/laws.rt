@@ -1,6 +1,7 @@
 //! Laws of decks.
 
 ghost use Rattle.deck.specs.BlockExamples.{EnclosingExamplesLaw};
+ghost use Rattle.deck.specs.BuiltIn.{PinnedDeckText};
 ghost use Rattle.deck.specs.Changes.{KeysChangedByEditLaw};
 ghost use Rattle.deck.specs.EnclosingBlocks.{EnclosingLaw};
 ghost use Rattle.deck.specs.Examples.{DeckExamplesLaw};
@@ -83,4 +84,9 @@ pub fn enclosing_law()
 /// The examples with blocks hold: small decks have the active lines that were worked out by hand.
 pub fn block_examples_law()
     ensures { EnclosingExamplesLaw }
+{}
+
+/// The length and a checksum of the built-in text.
+pub fn built_in_is_pinned()
+    ensures { PinnedDeckText }
 {}

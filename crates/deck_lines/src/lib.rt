@@ -18,7 +18,7 @@ pub use laws::{
 };
 pub use line::{Block, BorrowedLine, DeckLine, DeckLines, Ending, Role};
 pub use line_meaning::{Reading, read_line};
-pub use load::load_text;
+pub use load::{load_text, name_beside};
 pub use store::{
     EditedLines, LineStore, MOST_BYTES, MOST_LINES, PutDefinitions, Renumbering, can_exchange,
 };

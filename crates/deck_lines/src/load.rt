@@ -4,3 +4,4 @@ mod file;
 mod names;
 
 pub use file::load_text;
+pub use names::name_beside;

@@ -1,7 +1,6 @@
 //! The file of each line of a deck. The deck itself knows the number of a line, but not its file.
 #![tactic(auto)]
 
-mod beside;
 mod fault;
 mod laws;
 mod line_files;

@@ -6,12 +6,11 @@ ghost use Rattle.deck_lines.specs.Excerpts as excerpts;
 ghost use Rattle.deck_lines.specs.Readings.{store_line_reading_of};
 ghost use Rattle.line_files.specs.FileLines as spec;
 
-use crate::beside::name_beside;
 use crate::fault::LineFilesFault;
 use crate::line_files::LineFiles;
 use crate::pass::{NamedFile, Pass, end_line_text};
 use crate::step::{Step, change_blocks, step_of};
-use deck_lines::Block;
+use deck_lines::{Block, name_beside};
 use def_lines::{Cursor, LentLine, Lines};
 use std::alloc::Global;
 use units_io::{FetchFault, Files};

@@ -1,5 +1,4 @@
 pub mod CommandReply
-pub mod BuiltIn
 pub mod Calls
 pub mod Checks
 pub mod Definitions

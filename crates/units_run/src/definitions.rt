@@ -5,9 +5,8 @@ ghost use Rattle.units_io.specs.FileMap.{FileMap};
 ghost use Rattle.units_run.specs.Definitions as definitions;
 ghost use Rattle.units_run.specs.Settings as settings;
 
-use crate::built_in::built_in;
 use command_line::CommandLine;
-use deck::{Deck, DeckFault, Settings, transcripts_determine_loads};
+use deck::{Deck, DeckFault, Settings, built_in_text, transcripts_determine_loads};
 use session::text_deck;
 use std::alloc::{AllocError, Global};
 use units_io::{Files, Text, Vars};
@@ -33,7 +32,7 @@ pub(crate) fn settings_of(
 pub(crate) fn built_in_deck(alloc: Global, settings: Settings) -> Result<Deck, AllocError>
     ensures { IfOk result (λ deck. deck ≡ definitions.run_built_in_deck settings) }
 {
-    text_deck(alloc, built_in(), b"builtin", settings)
+    text_deck(alloc, built_in_text(), b"builtin", settings)
 }
 
 /// Returns the deck of a file, like `Deck::load`. If the files are known, they determine the deck or the error, unless a

@@ -1,6 +1,5 @@
 //! Laws about the words of a run, and examples. The functions do nothing: the contract of each is the law.
 
-ghost use Rattle.units_run.specs.BuiltIn.{PinnedRunText};
 ghost use Rattle.units_run.specs.Examples.{RunExamples};
 ghost use Rattle.units_run.specs.FileExamples.{RunFileExamples};
 ghost use Rattle.units_run.specs.Laws.{RunEndingLaw, RunNeedLaws, RunStatusLaw};
@@ -22,11 +21,6 @@ pub fn ending_law()
 /// Words that need neither files nor input end with the status of their run, even if no contents are known.
 pub fn status_law()
     ensures { RunStatusLaw }
-{}
-
-/// The length and a checksum of the built-in text.
-pub fn built_in_is_pinned()
-    ensures { PinnedRunText }
 {}
 
 /// Some words and the runs that they lead to.

@@ -2,7 +2,6 @@
 //! them.
 #![tactic(auto)]
 
-mod built_in;
 mod check_plan;
 mod checks;
 mod column_plan;
@@ -19,8 +18,6 @@ mod status;
 mod words_plan;
 mod work;
 
-pub use laws::{
-    built_in_is_pinned, ending_law, file_examples, need_laws, run_examples, status_law,
-};
+pub use laws::{ending_law, file_examples, need_laws, run_examples, status_law};
 pub use run::units_main;
 pub use status::Status;

@@ -1,15 +1,17 @@
 //! The definitions of a run, and the file of each line.
 
-use crate::built_in::{BUILT_IN_NAME, built_in};
 use crate::evaluator::Evaluator;
 use crate::line_names::{LineNames, line_names, line_names_to_read};
 use crate::stop::Stop;
-use deck::{Deck, Settings};
+use deck::{Deck, Settings, built_in_text};
 use live_table::LiveTable;
 use std::alloc::{AllocError, Global};
 use std::sync::ledger::Ledger;
 use units_io::{Files, Steps, Text, Vars};
 use why_words::{Inquiry, Request};
+
+/// The file name that is reported for places in the built-in definitions.
+pub(crate) const BUILT_IN_NAME: &[u8] = b"builtin";
 
 /// The definitions of a run, and the files of their lines. The files are unknown if one of them was read twice and had
 /// changed.
@@ -62,7 +64,7 @@ fn settings_of(alloc: Global, request: &Request, vars: &Vars) -> Result<Settings
 }
 
 fn load_built_in(alloc: Global, settings: Settings) -> Result<LoadedDeck, Stop> {
-    let deck = Deck::from_text(alloc, built_in(), BUILT_IN_NAME, settings)?;
+    let deck = Deck::from_text(alloc, built_in_text(), BUILT_IN_NAME, settings)?;
     let names = Some(LineNames::One(Text::from_bytes(alloc, BUILT_IN_NAME)?));
     Ok(LoadedDeck { deck, names })
 }

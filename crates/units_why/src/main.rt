@@ -3,7 +3,6 @@
 
 mod aliases;
 mod ambiguous;
-mod built_in;
 mod call_trace;
 mod callee;
 mod captures;

@@ -1,7 +1,8 @@
 //! A file that contains findings.
 
-use crate::built_in::{BUILT_IN_NAME, built_in};
+use crate::definitions::BUILT_IN_NAME;
 use crate::places::Places;
+use deck::built_in_text;
 use std::alloc::{AllocError, Global};
 use units_io::{FetchFault, Files, Text};
 
@@ -94,7 +95,7 @@ fn text_of<F: Files>(
     name: &[u8],
 ) -> Result<Text, AllocError> {
     if places.are_built_in && name == BUILT_IN_NAME {
-        return Text::from_bytes(alloc, built_in());
+        return Text::from_bytes(alloc, built_in_text());
     }
     match files.fetch(alloc, name) {
         Ok(text) => Ok(text),

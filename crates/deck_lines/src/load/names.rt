@@ -7,7 +7,7 @@ use std::alloc::{AllocError, Global};
 use units_io::Text;
 
 /// Returns the full name under which the file `name` is looked up if the file `includer` includes it.
-pub(crate) fn name_beside(alloc: Global, includer: &[u8], name: &[u8]) -> Result<Text, AllocError>
+pub fn name_beside(alloc: Global, includer: &[u8], name: &[u8]) -> Result<Text, AllocError>
     ensures { IfOk result (λ full. full ≡ included_name includer.now name.now) }
 {
     if name.first() == Some(&b'/') {

@@ -1,12 +1,9 @@
-//! The built-in definitions, byte for byte the same as those of `units`.
-
-ghost use Rattle.std.specs.Prelude.{◌≤◌, length};
+//! The built-in definitions.
+ghost use Rattle.std.specs.Prelude.{◌≡◌, ◌≤◌, length};
 ghost use Rattle.units_io.specs.FileMap.{longest_file};
+ghost use Rattle.deck.specs.BuiltIn as spec;
 
-/// The file name that is reported for places in the built-in definitions.
-pub(crate) const BUILT_IN_NAME: &[u8] = b"builtin";
-
-/// The text of the built-in definitions.
+// The text, with a line feed at its end.
 const BUILT_IN: &[u8] = b"# primitives
 m !
 kg !
@@ -87,9 +84,11 @@ zincgauge[in] 1 0.002, 10 0.02, 15 0.04, \\
 !unitlist ftin ft;in
 ";
 
-/// Returns the definitions for a run that names no file.
-pub(crate) fn built_in() -> &'static [u8]
-    ensures { length result.now ≤ longest_file }
+/// Returns the text of the built-in definitions, which are used if no file is named.
+#[tactic(auto, unfolding(crate::specs::BuiltIn::built_in_deck_text))]
+pub fn built_in_text() -> &'static [u8]
+    ensures is { result.now ≡ spec.built_in_deck_text }
+    ensures short { length result.now ≤ longest_file }
 {
     BUILT_IN
 }

@@ -1,9 +1,0 @@
-use Rattle.std.proofs.Common.{◌≡◌, length}
-use Rattle.deck_lines.specs.Includes.{include_folder_of}
-use Rattle.line_files.proofs.beside.folder.Given as goal
-
-abbrev pub invariant-loop-b : goal.invariant-loop-b
-invariant-loop-b l = include_folder_of l.rest ≡ include_folder_of l.name
-
-abbrev pub decreases-loop-b : goal.decreases-loop-b
-decreases-loop-b l = length l.rest
