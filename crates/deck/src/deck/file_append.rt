@@ -1,26 +1,26 @@
 //! Appending the deck of a file to a deck.
 
-ghost use Rattle.std.specs.Prelude.{◌≡◌, ◌≤◌, [], true, false, IfOk, IfErr, OnOk, OnErr};
+ghost use Rattle.std.specs.Prelude.{◌≡◌, [], true, false, IfOk, IfErr, OnOk, OnErr};
 ghost use Rattle.deck_lines.specs.Limits.{pass_store_limit};
 ghost use Rattle.deck_lines.specs.Loads.{ExtendsStore};
 ghost use Rattle.deck_lines.specs.KeyNumbering.{IsKeyNumbering};
 ghost use Rattle.deck_lines.specs.LineLoads.{excerpt_in};
 ghost use Rattle.deck_lines.specs.Transcripts.{IsLoad, files_model};
 ghost use Rattle.deck.specs.Changes.{IsDeckTableChange, IsEditChange};
-ghost use Rattle.deck.specs.LastPlaces.{AreLastDefinitionPlaces, IsDeckIndexed};
+ghost use Rattle.deck.specs.LastPlaces.{IsDeckIndexed};
 ghost use Rattle.deck.specs.FileLoads as loading;
-ghost use Rattle.deck.specs.Numbers.{AreDefinitionsInPlace};
-ghost use Rattle.deck.specs.Tables.{DeckDefinitions, active_definitions, table_of_deck_definitions};
+ghost use Rattle.deck.specs.Tables.{active_definitions, table_of_deck_definitions};
 ghost use Rattle.deck.specs.declared.fault.DeckFault.TheVariants.{OutOfMemory};
 
 use super::Deck;
 use super::file_load::load_file;
 use crate::fault::DeckFault;
-use crate::places::{LastPlaces, changed_keys};
+use crate::force::InForce;
+use crate::places::{LastPlaces, PlaceChanges, find_place_changes};
 use crate::settings::Settings;
 use deck_lines::{Draft, LineStore, Notices, failed_fetches_end_loads};
 use def_entry::Keys;
-use std::alloc::{AllocError, Global};
+use std::alloc::Global;
 use std::mem;
 use units_io::Files;
 
@@ -55,13 +55,6 @@ impl Deck {
         )?;
         Ok(end.store(&mut self.last, &mut self.notices))
     }
-}
-
-// The new last places, and the keys whose entries differ from those at the previous last places.
-#[derive(Drop)]
-struct PlaceChanges {
-    last: LastPlaces,
-    keys: Keys,
 }
 
 // The changes that appending the deck of a file makes, and the notices of that file.
@@ -161,24 +154,6 @@ fn load_changes<F: Files>(
 {
     failed_fetches_end_loads();
     load_file(alloc, files, draft, name)?;
-    Ok(find_place_changes(alloc, &draft.store, last, settings)?)
-}
-
-// Computes the changes from the previous last places to those of the present lines.
-fn find_place_changes(
-    alloc: Global,
-    store: &LineStore,
-    last: &LastPlaces,
-    settings: &Settings,
-) -> Result<PlaceChanges, AllocError>
-    ensures within { pass_store_limit store.now.lines ≡ false }
-    ensures last { IfOk result (λ now. AreLastDefinitionPlaces store.now.names
-        (active_definitions settings.now store.now.lines) now.last) }
-    ensures keys { IfOk result (λ now. (ds : DeckDefinitions) → AreDefinitionsInPlace store.now.lines ds
-        → AreLastDefinitionPlaces store.now.names ds last.now → IsDeckTableChange (table_of_deck_definitions ds)
-        (table_of_deck_definitions (active_definitions settings.now store.now.lines)) now.keys) }
-{
-    let now = LastPlaces::under(alloc, settings, store)?;
-    let keys = changed_keys(alloc, store, last, &now)?;
-    Ok(PlaceChanges { last: now, keys })
+    let settings = InForce::of(settings);
+    Ok(find_place_changes(alloc, &draft.store, last, &settings)?)
 }

@@ -1,6 +1,6 @@
 //! Changing one setting without copying the others.
 
-ghost use Rattle.std.specs.Prelude.{◌≡◌, ◌-◌, Ok, Some, IfOk, length, take};
+ghost use Rattle.std.specs.Prelude.{◌≡◌, ◌-◌, ◌<◌, Ok, Some, IfOk, length, slice_get, take};
 ghost use Rattle.std.specs.Bool.{OnTrue};
 ghost use Rattle.units_io.specs.NamedValues.{named_text};
 ghost use Rattle.deck.specs.Edits as edit;
@@ -9,7 +9,7 @@ ghost use Rattle.deck.specs.SettingChanges as changes;
 use super::Deck;
 use crate::fault::DeckFault;
 use crate::force::InForce;
-use crate::places::{LastPlaces, changed_keys};
+use crate::places::find_place_changes;
 use crate::settings::Settings;
 use def_entry::Keys;
 use std::alloc::{AllocError, Global};
@@ -28,13 +28,12 @@ impl Deck {
         }
         let value = Text::from_bytes(alloc, value)?;
         let settings = InForce::with_variable(&self.settings, name, &value);
-        let last = LastPlaces::in_force(alloc, &settings, &self.store)?;
-        let keys = changed_keys(alloc, &self.store, &self.last, &last)?;
+        let changes = find_place_changes(alloc, &self.store, &self.last, &settings)?;
         let name = Text::from_bytes(alloc, name)?;
         self.covered_lines = None;
         self.settings.vars.set(alloc, name, value)?;
-        self.last = last;
-        Ok(keys)
+        self.last = changes.last;
+        Ok(changes.keys)
     }
 
     /// Changes the locale, with the result, the error and the cost of `set`.
@@ -46,12 +45,11 @@ impl Deck {
             return Ok(Keys::new(alloc));
         }
         let settings = InForce::with_locale(&self.settings, locale);
-        let last = LastPlaces::in_force(alloc, &settings, &self.store)?;
-        let keys = changed_keys(alloc, &self.store, &self.last, &last)?;
+        let changes = find_place_changes(alloc, &self.store, &self.last, &settings)?;
         self.settings.locale = Text::from_bytes(alloc, locale)?;
-        self.last = last;
+        self.last = changes.last;
         self.covered_lines = None;
-        Ok(keys)
+        Ok(changes.keys)
     }
 
     /// Removes the last variable, if there is one, and returns the keys whose entries change. The only error is running
@@ -91,12 +89,21 @@ fn all_but_last(alloc: Global, vars: &Vars) -> Result<Vars, AllocError>
     let mut copies = Vars::with_seed(alloc, vars.table_seed());
     let count = vars.len().saturating_sub(1);
     for i in 0..count {
-        let Some((name, value)) = vars.get(i) else {
-            unreachable!()
-        };
-        let name = Text::from_bytes(alloc, name)?;
-        let value = value.copy(alloc)?;
-        copies.push(alloc, (name, value))?;
+        let variable = copied_variable(alloc, vars, i)?;
+        copies.push(alloc, variable)?;
     }
     Ok(copies)
+}
+
+// Returns a copy of the variable at index `i`.
+fn copied_variable(alloc: Global, vars: &Vars, i: usize) -> Result<(Text, Text), AllocError>
+    requires { i < length vars.now }
+    ensures { IfOk result (λ copy. slice_get vars.now i ≡ Some copy) }
+{
+    let Some((name, value)) = vars.get(i) else {
+        unreachable!()
+    };
+    let name = Text::from_bytes(alloc, name)?;
+    let value = value.copy(alloc)?;
+    Ok((name, value))
 }

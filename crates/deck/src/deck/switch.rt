@@ -5,7 +5,8 @@ ghost use Rattle.deck.specs.Edits as edit;
 
 use super::Deck;
 use crate::fault::DeckFault;
-use crate::places::{LastPlaces, changed_keys};
+use crate::force::InForce;
+use crate::places::find_place_changes;
 use crate::settings::Settings;
 use def_entry::Keys;
 use std::alloc::Global;
@@ -16,11 +17,11 @@ impl Deck {
     pub fn switch(&mut self, alloc: Global, settings: Settings) -> Result<Keys, DeckFault>
         ensures { edit.IsDeckEdit (Ok (edit.deck_after_switching settings self.old)) self.old self.new result }
     {
-        let last = LastPlaces::under(alloc, &settings, &self.store)?;
-        let keys = changed_keys(alloc, &self.store, &self.last, &last)?;
+        let in_force = InForce::of(&settings);
+        let changes = find_place_changes(alloc, &self.store, &self.last, &in_force)?;
         self.settings = settings;
-        self.last = last;
+        self.last = changes.last;
         self.covered_lines = None;
-        Ok(keys)
+        Ok(changes.keys)
     }
 }

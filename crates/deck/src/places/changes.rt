@@ -19,7 +19,7 @@ use std::alloc::{AllocError, Global};
 use units_io::Text;
 
 /// Returns the keys whose entries differ between two sets of last places in these lines.
-pub(crate) fn changed_keys(
+pub(super) fn changed_keys(
     alloc: Global,
     store: &LineStore,
     before: &LastPlaces,

@@ -36,8 +36,9 @@ impl LastPlaces {
         settings: &InForce<'_>,
         store: &LineStore,
     ) -> Result<LastPlaces, AllocError>
-        ensures { IfOk result (λ last. AreLastDefinitionPlaces store.now.names
+        ensures last { IfOk result (λ last. AreLastDefinitionPlaces store.now.names
             (active_definitions settings.now store.now.lines) last) }
+        ensures within { pass_store_limit store.now.lines ≡ false }
     {
         let edited = EditedLines::without_change(store);
         let flags = flags_in_force(alloc, &edited, settings)?;

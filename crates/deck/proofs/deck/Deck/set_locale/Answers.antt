@@ -3,7 +3,6 @@ use Rattle.deck_lines.specs.declared.line.DeckLine.{DeckLine}
 use Rattle.deck.specs.Changes.{IsDeckTableChange}
 use Rattle.deck.specs.Decks.{DeckContents}
 use Rattle.deck.specs.Edits.{deck_after_switching}
-use Rattle.deck.specs.LastPlaces.{AreLastDefinitionPlaces}
 use Rattle.deck.specs.SettingChanges.{settings_with_locale}
 use Rattle.deck.specs.Tables.{active_definitions, table_of_deck, table_of_deck_definitions}
 use Rattle.deck.specs.declared.settings.Settings.{Settings}
@@ -25,12 +24,10 @@ returns c =
           ∙ ap (λ (l : List ℕ). Ok (deck_of lines s.notices (settings_of l s.settings.vars)))
           (sym c.in_ok-self-inside.ensures),
       subst (λ (d : DeckContents). IsDeckTableChange (table_of_deck d)
-          (table_of_deck_definitions (active_definitions now lines)) c.in_ok-keys.keys)
+          (table_of_deck_definitions (active_definitions now lines)) c.in_ok-changes.changes.keys)
           c.self.view_is
-          (c.in_ok-keys.ensures (active_definitions s.settings lines) (active_definitions now lines)
-          (active_definitions_in_place s.settings lines)
-          (active_definitions_in_place now lines) c.self.invariant.indexed.places
-          (subst (λ (t : Settings). AreLastDefinitionPlaces s.store.names (active_definitions t lines)
-          c.in_ok-last.last) are
-          c.in_ok-last.ensures)),
+          (subst (λ (t : Settings). IsDeckTableChange (table_of_deck_definitions (active_definitions s.settings lines))
+          (table_of_deck_definitions (active_definitions t lines)) c.in_ok-changes.changes.keys) are
+          (c.in_ok-changes.ensures.keys (active_definitions s.settings lines)
+          (active_definitions_in_place s.settings lines) c.self.invariant.indexed.places)),
     )

@@ -1,4 +1,4 @@
-use Rattle.std.proofs.Common.{◌++◌, ◌∷◌, [], Result, Ok, Err, refl, ap, ◌∙◌}
+use Rattle.std.proofs.Common.{◌++◌, ◌∷◌, [], Bool, List, Result, Ok, Err, refl, ap, ◌∙◌}
 use Rattle.std.specs.Prelude.{OnOk}
 use Rattle.deck_lines.specs.declared.line.DeckLine.{DeckLine}
 use Rattle.deck.proofs.force.flags.push_flag.Goals as goal
@@ -12,4 +12,4 @@ returns-clause-flags c = λ number.
     let line : DeckLine =
     record { number = number; text = c.args.line.text.now; mark = c.args.line.mark } in
     on_ok c.pass.result
-    (c.in_ok-push.ensures.items ∙ ap (λ active. c.args.flags.now.items ++ active ∷ []) (c.is_active.ensures line refl))
+    (◌∙◌ {A = List Bool} c.in_ok-push.ensures.items (ap (λ active. c.args.flags.now.items ++ active ∷ []) (c.is_active.ensures line refl)))

@@ -10,9 +10,9 @@ pub of_edited-requires : goal.of_edited-requires
 of_edited-requires c = ap length (c.as_slice.ensures.value ∙ c.in_ok-flags.ensures)
     ∙ length-active_line_flags _ _ c.without_change-edited.result.new_lines
 
-pub returns : goal.returns
+pub returns-clause-last : goal.returns-clause-last
 unfolding active_definitions
-returns c =
+returns-clause-last c =
     subst (λ (e : StoreEdit). IfOk c.of_edited.result
     (λ last. AreLastDefinitionPlaces e.names (active_definitions c.args.settings.now e.new_lines) last))
     c.without_change-edited.ensures.is

@@ -1,6 +1,6 @@
 use Rattle.deck.specs.Tables.{active_definitions}
 use Rattle.deck.proofs.PlacedDefinitions.{active_definitions_in_place}
-use Rattle.deck.proofs.deck.file_append.find_place_changes.Goals as goal
+use Rattle.deck.proofs.places.place_changes.find_place_changes.Goals as goal
 
 pub returns-clause-keys : goal.returns-clause-keys
 returns-clause-keys c = λ ds in_place before.
