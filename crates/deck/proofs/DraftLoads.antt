@@ -1,6 +1,6 @@
 -- Loads of files and texts to drafts.
 use Rattle.std.proofs.Common.{◌≡◌, ◌⊎◌, ◌++◌, ◌∷◌, [], ℕ, List, true, refl, sym, ap, subst, ◌∙◌}
-use Rattle.std.proofs.Common.{Result, Ok, Err, Option, Some, IfSome, inl, inr, arith}
+use Rattle.std.proofs.Common.{Result, Ok, Err, Some, IfSome, inl, inr, arith}
 use Rattle.std.proofs.lemmas.List.{append-nil}
 use Rattle.std.proofs.lemmas.Slice.Eq.{bytes_eq-Decides}
 use Rattle.std.specs.Prelude.{IsErrAnd, MatchResult, bytes_eq}
@@ -12,7 +12,7 @@ use Rattle.deck_lines.specs.Excerpts.{Excerpt}
 use Rattle.deck_lines.specs.LineLoads.{excerpt_in, load_of_file}
 use Rattle.deck_lines.specs.LoadLaws.{KnownLoadLaw, LoadFailureLaw}
 use Rattle.deck_lines.specs.Transcripts.{AreTranscriptAnswersOf, FetchRelation, FilesModel, HasTranscript, IsLoad}
-use Rattle.deck_lines.specs.Transcripts.{IsTranscript, Load, TranscriptFetch, files_model, load_faults_after_fetches}
+use Rattle.deck_lines.specs.Transcripts.{IsTranscript, TranscriptFetch, files_model, load_faults_after_fetches}
 use Rattle.deck_lines.specs.Transcripts.{load_outcome}
 use Rattle.deck_lines.specs.declared.draft.Draft.{Draft}
 use Rattle.deck_lines.specs.declared.draft.LoadFault.{LoadFault}

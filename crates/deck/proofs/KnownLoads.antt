@@ -4,9 +4,8 @@ use Rattle.std.proofs.Common.{Result, Ok, Err, Some, inl, inr}
 use Rattle.std.proofs.lemmas.List.{append-nil}
 use Rattle.std.proofs.lemmas.Slice.Eq.{bytes_eq-Decides}
 use Rattle.std.specs.Prelude.{IsErrAnd, bytes_eq}
-use Rattle.units_io.specs.Faults.{next_io_count}
-use Rattle.units_io.specs.FileMap.{FileMap, file_of_name}
-use Rattle.units_io.specs.FetchResults.{IsFileFetched, file_fetch_answer}
+use Rattle.units_io.specs.FileMap.{FileMap}
+use Rattle.units_io.specs.FetchResults.{IsFileFetched}
 use Rattle.units_io.specs.declared.files.FetchFault.{FetchFault}
 use Rattle.units_io.specs.declared.files.FetchFault.TheVariants as fetch
 use Rattle.deck_lines.specs.Excerpts.{Excerpt, excerpts_in_turn}
@@ -14,19 +13,18 @@ use Rattle.deck_lines.specs.Includes.{excerpt_of_deck_file}
 use Rattle.deck_lines.specs.Limits.{pass_store_limit}
 use Rattle.deck_lines.specs.LineLoads.{load_of_file}
 use Rattle.deck_lines.specs.LoadLaws.{KnownLoadLaw, LoadKeepsLinesLaw, excerpt_within_limit}
-use Rattle.deck_lines.specs.Transcripts.{AreTranscriptAnswersOf, Asks, Fails, Load, LoadContinuesAs, TranscriptFetch}
+use Rattle.deck_lines.specs.Transcripts.{AreTranscriptAnswersOf, Asks, Fails, Load, TranscriptFetch}
 use Rattle.deck_lines.specs.Transcripts.{Yields, load_outcome}
 use Rattle.deck_lines.specs.declared.draft.LoadFault.{LoadFault}
 use Rattle.deck_lines.specs.declared.draft.LoadFault.TheVariants as load
 use Rattle.deck_lines.specs.declared.line.DeckLine.{DeckLine}
 use Rattle.deck.specs.Decks.{DeckContents}
-use Rattle.deck.specs.Edits.{deck_with_excerpt, deck_within_limit}
 use Rattle.deck.specs.FileLoads.{AppendedDeckLinesLaw, KnownDeckAppendLaw, MayDeckLoadFailWith, deck_after_appending}
 use Rattle.deck.specs.FileLoads.{deck_of_outcome, deck_excerpt_of_lines, deck_fault_of_load, deck_load_error}
 use Rattle.deck.specs.FileLoads.{deck_load_of_first_answer, deck_load_of_name, deck_append_by_answer}
 use Rattle.deck.specs.FileLoads.{load_with_deck_fault}
 use Rattle.deck.specs.declared.fault.DeckFault.{DeckFault}
-use Rattle.deck.specs.declared.fault.DeckFault.TheVariants.{DeckFull, ReadFailed, OutOfMemory}
+use Rattle.deck.specs.declared.fault.DeckFault.TheVariants.{DeckFull}
 
 -- a load yields one excerpt, and fails with one fault
 deck_load_has_one_excerpt : {E : Type 0} (a b : Excerpt) (xs ys : List TranscriptFetch)

@@ -1,5 +1,5 @@
 -- Consequences of the transcript of a load: the count of failed fetches, and the deck if the files are known.
-use Rattle.std.proofs.Common.{◌≡◌, ◌⊎◌, ◌++◌, ◌∷◌, [], ℕ, List, Bool, true, false, cond, refl, sym, ap, subst, ◌∙◌}
+use Rattle.std.proofs.Common.{◌≡◌, ◌⊎◌, ◌∷◌, [], ℕ, List, Bool, true, false, cond, refl, sym, ap, subst, ◌∙◌}
 use Rattle.std.proofs.Common.{Result, Ok, Err, Some, inl, inr}
 use Rattle.std.proofs.lemmas.List.{append-nil}
 use Rattle.std.specs.Prelude.{IfOk, IsErrAnd, bytes_eq}

@@ -10,7 +10,7 @@ use Rattle.deck_lines.specs.Excerpts.{Excerpt}
 use Rattle.deck_lines.specs.Includes.{excerpt_of_deck_file, excerpt_of_lone_deck_file}
 use Rattle.deck_lines.specs.LineLoads.{load_of_file}
 use Rattle.deck_lines.specs.Transcripts.{AreTranscriptAnswersOf, Asks, Fails, FilesModel, HasTranscript, IsLoad}
-use Rattle.deck_lines.specs.Transcripts.{IsTranscript, Load, TranscriptFetch, Yields, load_after_fetch}
+use Rattle.deck_lines.specs.Transcripts.{Load, TranscriptFetch, Yields, load_after_fetch}
 use Rattle.deck_lines.specs.declared.line.DeckLine.{DeckLine}
 use Rattle.deck_lines.specs.declared.draft.LoadFault.{LoadFault}
 use Rattle.deck_lines.specs.declared.draft.LoadFault.TheVariants as load

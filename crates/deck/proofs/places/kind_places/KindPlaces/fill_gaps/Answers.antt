@@ -1,4 +1,4 @@
-use Rattle.std.proofs.Common.{◌++◌, drop, length, map, option_map, take, arith, ap, sym, ◌∙◌}
+use Rattle.std.proofs.Common.{length, option_map, arith, ap, ◌∙◌}
 use Rattle.gap_list.specs.Gaps.{place_without_gaps}
 use Rattle.deck.proofs.KindPlacing.{length-moved, mapped_definition_places_all, moved_place}
 use Rattle.deck.proofs.places.kind_places.KindPlaces.fill_gaps.Goals as goal

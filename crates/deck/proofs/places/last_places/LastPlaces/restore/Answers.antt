@@ -1,4 +1,4 @@
-use Rattle.std.proofs.Common.{ap, arith, cond, length, map, option_map, set, sym, ◌∙◌}
+use Rattle.std.proofs.Common.{ap, arith, cond, length, map, option_map, set, ◌∙◌}
 use Rattle.std.proofs.lemmas.List.{length-map}
 use Rattle.gap_list.specs.Gaps.{place_without_gaps}
 use Rattle.def_entry.specs.SameKeys.{is_same_key_kind}
