@@ -1,6 +1,9 @@
 //! Merging powers into a search tree.
 
-ghost use Rattle.std.specs.Prelude.{◌∷◌, []};
+ghost use Rattle.std.specs.BTreeMap.{IsOrdered, Updates};
+ghost use Rattle.std.specs.Cmp.Lexicographic.{slice_cmp};
+ghost use Rattle.std.specs.Ordering.{nat_cmp};
+ghost use Rattle.std.specs.Prelude.{◌∷◌, [], OnOk, Some};
 ghost use Rattle.quantity.specs.Exponents.{IsUnitPower};
 ghost use Rattle.quantity.specs.Factors.{exponent_in};
 ghost use Rattle.quantity.specs.Merges.{ArePowers, ArePowersInOrder, merge_of_powers};
@@ -12,7 +15,7 @@ use crate::fault::ExponentFault;
 use crate::name::Name;
 use crate::walk::{Entry, Walk};
 use frac128::reduced_law;
-use std::alloc::Global;
+use std::alloc::{AllocError, Global};
 use std::collections::BTreeMap;
 
 // Merges the remaining powers of a factor into a tree and returns the tree.
@@ -50,7 +53,7 @@ fn join(
     reduced_law();
     let exponent = factor.exponent(power.exponent);
     let Some(old) = tree.get(power.name) else {
-        tree.insert(power.name.copy(alloc)?, exponent)?;
+        set_exponent(alloc, tree, power.name, exponent)?;
         return Ok(());
     };
     let Some(sum) = old.add(&exponent) else {
@@ -59,7 +62,22 @@ fn join(
     if sum.is_zero() {
         tree.remove(power.name);
     } else {
-        tree.insert(power.name.copy(alloc)?, sum)?;
+        set_exponent(alloc, tree, power.name, sum)?;
     }
+    Ok(())
+}
+
+// Sets the exponent of a name in a tree.
+fn set_exponent(
+    alloc: Global,
+    tree: &mut BTreeMap<Name, Exponent>,
+    name: &Name,
+    exponent: Exponent,
+) -> Result<(), AllocError>
+    ensures updates { OnOk result (Updates (slice_cmp nat_cmp) tree.old tree.new name.now (Some exponent)) }
+    ensures ordered { OnOk result (IsOrdered (slice_cmp nat_cmp) tree.new) }
+{
+    let name = name.copy(alloc)?;
+    tree.insert(name, exponent)?;
     Ok(())
 }

@@ -1,6 +1,7 @@
 //! The texts of names with exponents.
 
 ghost use Rattle.std.specs.Prelude.{◌≡◌, ◌++◌, OnOk, unsigned_abs};
+ghost use Rattle.std.specs.Fmt.{decimal};
 ghost use Rattle.std.specs.List.{filter, flat_map, list_any};
 ghost use Rattle.quantity.specs.Text.{exponent_text, is_power_on_side, listed_powers_text, unit_power_text};
 
@@ -87,10 +88,18 @@ fn put_exponent(alloc: Global, text: &mut Vec<u8>, exponent: &Exponent) -> Resul
         return Ok(());
     }
     text.push(b'^')?;
-    text.extend_from_slice(num.to_string(alloc)?.as_bytes())?;
+    put_number(alloc, text, num)?;
     if exponent.den > 1 {
         text.push(b'|')?;
-        text.extend_from_slice(exponent.den.to_string(alloc)?.as_bytes())?;
+        put_number(alloc, text, exponent.den)?;
     }
     Ok(())
+}
+
+// Appends the decimal digits of a number to a text.
+fn put_number(alloc: Global, text: &mut Vec<u8>, number: u32) -> Result<(), AllocError>
+    ensures { OnOk result (text.new.items ≡ text.old.items ++ decimal number) }
+{
+    let digits = number.to_string(alloc)?;
+    text.extend_from_slice(digits.as_bytes())
 }
