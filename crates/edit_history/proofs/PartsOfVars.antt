@@ -63,15 +63,15 @@ pub history_part_replaces_difference : (first cut end : ℕ) (vars others : Name
     → history_exchanged_variables first cut (history_pairs_between first end others) vars ≡ others
 history_part_replaces_difference first cut end vars others front back within =
     ap (λ (ps : NamedTexts). ps ++ (part ++ drop cut vars)) front
-    ∙ ap (λ (ps : NamedTexts). take first others ++ (part ++ ps)) (back ∙ behind)
+    ∙ ap (λ (ps : NamedTexts). take first others ++ (part ++ ps)) (back ∙ rest_after_front)
     ∙ ap (λ (ps : NamedTexts). take first others ++ ps) (take-append-drop (end - first) (drop first others))
     ∙ take-append-drop first others
   where
     part : NamedTexts
     part = history_pairs_between first end others
 
-    behind : drop end others ≡ drop (end - first) (drop first others)
-    behind =
+    rest_after_front : drop end others ≡ drop (end - first) (drop first others)
+    rest_after_front =
         let there : end ≡ first + (end - first) = omega (arith, within) in
         ap (λ n. drop n others) there ∙ sym (drop-drop (end - first) first others)
 

@@ -8,9 +8,14 @@ use std::marker::Model;
 use std::mem;
 
 /// A change of settings in a box, so that steps of other kinds do not take up its room. Contracts see the change.
-#[derive(Drop)]
 pub struct BoxedChange {
     inner: Box<SettingsChange>,
+}
+
+impl Drop for BoxedChange {
+    fn drop(self) {
+        let BoxedChange { inner: _ } = self;
+    }
 }
 
 impl Model for BoxedChange {

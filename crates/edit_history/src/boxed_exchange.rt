@@ -8,9 +8,14 @@ use std::marker::Model;
 use std::mem;
 
 /// An exchange of lines in a box, so that steps of other kinds do not take up its room. Contracts see the exchange.
-#[derive(Drop)]
 pub struct BoxedExchange {
     inner: Box<LineExchange>,
+}
+
+impl Drop for BoxedExchange {
+    fn drop(self) {
+        let BoxedExchange { inner: _ } = self;
+    }
 }
 
 impl Model for BoxedExchange {

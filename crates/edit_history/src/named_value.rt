@@ -7,10 +7,18 @@ use std::marker::Model;
 use units_io::Text;
 
 /// A name with a value, in one allocation. Contracts see both.
-#[derive(Drop)]
 pub struct NamedValue {
     text: Text,
     name_len: usize,
+}
+
+impl Drop for NamedValue {
+    fn drop(self) {
+        let NamedValue {
+            text: _,
+            name_len: _,
+        } = self;
+    }
 }
 
 impl Model for NamedValue {

@@ -42,7 +42,7 @@ pub fn changed_settings(
     requires { HasDistinctTextNames (history_settings_after_change change.now settings.now).vars }
     ensures { IfOk result (λ made. made ≡ history_settings_after_change change.now settings.now) }
 {
-    let locale = locale_behind(alloc, &change.locale, &settings.locale)?;
+    let locale = locale_after_change(alloc, &change.locale, &settings.locale)?;
     let mut vars = Vars::with_seed(alloc, settings.vars.table_seed());
     copy_pairs(alloc, &mut vars, &settings.vars, 0, change.first)?;
     copy_pairs(alloc, &mut vars, &change.put, 0, change.put.len())?;
@@ -67,7 +67,11 @@ fn other_locale(alloc: Global, from: &Text, to: &Text) -> Result<Option<Text>, A
 }
 
 // Returns the other locale if there is one, or else the old locale.
-fn locale_behind(alloc: Global, other: &Option<Text>, locale: &Text) -> Result<Text, AllocError>
+fn locale_after_change(
+    alloc: Global,
+    other: &Option<Text>,
+    locale: &Text,
+) -> Result<Text, AllocError>
     ensures { IfOk result (λ copy. copy ≡ history_locale_after_change other.now locale.now) }
 {
     match other {

@@ -32,7 +32,7 @@ pub fn same_front(vars: &Vars, others: &Vars) -> usize
 pub fn differing_ends(vars: &Vars, others: &Vars, front: usize) -> Ends
     requires { front ≤ length others.now }
     ensures same { drop result.in_vars vars.now ≡ drop result.in_others others.now }
-    ensures behind { front ≤ result.in_others }
+    ensures after_front { front ≤ result.in_others }
     ensures distinct { HasDistinctTextNames others.now }
 {
     let mut in_vars = vars.len();

@@ -20,4 +20,4 @@ returns-clause-gives c =
     ∙ history_part_is_copied first end to c.differing_ends-ends.ensures.distinct)
     ∙ history_part_replaces_difference first cut end from to c.same_front-first.ensures.same
     c.differing_ends-ends.ensures.same
-    c.differing_ends-ends.ensures.behind)
+    c.differing_ends-ends.ensures.after_front)
