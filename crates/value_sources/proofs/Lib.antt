@@ -6,7 +6,6 @@ pub mod Members
 pub mod Once
 pub mod OneList
 pub mod OperandFaults
-pub mod Paths
 pub mod Placing
 pub mod Reached
 pub mod Reversing

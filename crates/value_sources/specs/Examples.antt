@@ -1,5 +1,5 @@
 -- The rows of a small table, found by hand.
-use Rattle.std.specs.Prelude.{◌≡◌, ℕ, true, false, List, [], ◌∷◌, Some, None, codes, pos}
+use Rattle.std.specs.Prelude.{◌≡◌, ℕ, List, [], ◌∷◌, Some, None, codes, pos}
 use Rattle.expr_tree.specs.declared.word_list.WordUse.{WordUse}
 use Rattle.expr_tree.specs.declared.word_list.WordKind.{WordKind}
 use Rattle.expr_tree.specs.declared.word_list.WordKind.TheVariants as word_kind
@@ -14,7 +14,6 @@ use Rattle.value_sources.specs.declared.resolution.Resolution.TheVariants.{Unkno
 use Rattle.value_sources.specs.declared.site.Site.{Site}
 use Rattle.value_sources.specs.declared.site.Site.TheVariants.{AliasTarget, Expression, Forward, Inverse}
 use Rattle.value_sources.specs.declared.site.Site.TheVariants.{Body as InBody}
-use Rattle.value_sources.specs.Cycles.{source_cycle_flags}
 use Rattle.value_sources.specs.Mentions.{Mention}
 use Rattle.value_sources.specs.Rows.{AreSourceRowsOf, SourceRow, skipped_source_row, visited_source_row}
 use Rattle.value_sources.specs.Values.{source_value_syntax}
@@ -116,8 +115,7 @@ loop_source_rows = visited_source_row (outer_mention (codes "loop") Name loop_so
 -- law: the rows of `miles`, a plural, with the prefix and the unit of its entry below; of `m m`, whose second row
 -- visits nothing; of `x`, which is unknown; of `loop_source_key`, which is on a cycle; and of `~g(..)`, an alias of a
 -- function with an inverse. The expression whose value is that of a prefix is its definition, that of a primitive unit
--- is its name, and a function has none. The second row of `loop_source_key` closes a cycle, and the second row of `m m`
--- does not.
+-- is its name, and a function has none.
 pub record SourceExamplesLaw : Type 0 where
   pub plural : AreSourceRowsOf source_table (one_source_word_use (codes "miles") ∷ [])
       (visited_source_row (outer_mention (codes "miles") Plural mile_source_key) ∷ visited_source_row
@@ -137,5 +135,3 @@ pub record SourceExamplesLaw : Type 0 where
       (Number (record { coefficient = 1; scale = pos 3 }))
   pub unit_value : source_value_syntax source_table metre_source_key ≡ Some (Word (codes "m"))
   pub function_value : source_value_syntax function_source_table f_source_key ≡ None
-  pub repeated_flags : source_cycle_flags [] repeated_source_rows ≡ false ∷ false ∷ []
-  pub cycle_flags_of_loop : source_cycle_flags [] loop_source_rows ≡ false ∷ true ∷ []

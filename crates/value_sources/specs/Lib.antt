@@ -1,5 +1,4 @@
 pub mod Calls
-pub mod Cycles
 pub mod Examples
 pub mod FailedSteps
 pub mod Joinings

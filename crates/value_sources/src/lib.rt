@@ -2,7 +2,6 @@
 #![tactic(auto)]
 
 mod call_list;
-mod cycles;
 mod deck_table;
 mod entry_mentions;
 mod failing;
@@ -22,7 +21,6 @@ mod walk;
 mod word_keys;
 
 pub use call_list::calls;
-pub use cycles::cycle_flags;
 pub use failing::failed_step;
 pub use failure::FailedStep;
 pub use key_tree::value_tree;
@@ -31,4 +29,4 @@ pub use mention::StoredMention;
 pub use resolution::Resolution;
 pub use row::Row;
 pub use site::Site;
-pub use walk::{Walk, rows};
+pub use walk::Walk;

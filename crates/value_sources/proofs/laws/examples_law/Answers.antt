@@ -12,6 +12,4 @@ returns c = record {
   prefix_value = refl;
   unit_value = refl;
   function_value = refl;
-  repeated_flags = refl;
-  cycle_flags_of_loop = refl;
 }
