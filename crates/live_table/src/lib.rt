@@ -35,6 +35,7 @@ mod word_targets;
 mod worklist;
 
 pub use counts::Counts;
+pub use deck_table::DeckTable;
 pub use fault::QueryFault;
 pub use laws::{
     cached_names_law, caching_calls_law, call_list_law, count_law, deck_kinds_law,
@@ -42,3 +43,4 @@ pub use laws::{
     run_law, steps_law,
 };
 pub use live_table::LiveTable;
+pub use tried_keys::TriedKeys;

@@ -12,7 +12,7 @@ use std::marker::Model;
 /// The keys that the lookup of one word tries, in order. The memory is reused from one word to the next. No key gets a
 /// number here.
 #[derive(Drop)]
-pub(crate) struct TriedKeys {
+pub struct TriedKeys {
     // the names, one after another
     names: Vec<u8>,
     keys: Vec<TriedKey>,
@@ -61,7 +61,7 @@ impl Looking for TriedKeys {
 
 impl TriedKeys {
     /// Returns an empty list of keys.
-    pub(crate) fn new(alloc: Global) -> TriedKeys
+    pub fn new(alloc: Global) -> TriedKeys
         ensures { result ≡ [] }
     {
         TriedKeys {
@@ -71,14 +71,14 @@ impl TriedKeys {
     }
 
     /// The number of keys.
-    pub(crate) fn len(&self) -> usize
+    pub fn len(&self) -> usize
         ensures { result ≡ length self.now }
     {
         self.keys.len()
     }
 
     /// Returns the kind of the key at a place.
-    pub(crate) fn kind(&self, place: usize) -> Kind
+    pub fn kind(&self, place: usize) -> Kind
         requires { place < length self.now }
         ensures { result ≡ (node_key_at self.now place).kind }
     {
@@ -86,7 +86,7 @@ impl TriedKeys {
     }
 
     /// Returns the name of the key at a place.
-    pub(crate) fn name(&self, place: usize) -> &[u8]
+    pub fn name(&self, place: usize) -> &[u8]
         requires { place < length self.now }
         ensures { result.now ≡ (node_key_at self.now place).name }
     {
@@ -95,7 +95,7 @@ impl TriedKeys {
     }
 
     /// Removes all keys.
-    pub(crate) fn clear(&mut self)
+    pub fn clear(&mut self)
         ensures { self.new ≡ [] }
     {
         self.keys.clear();

@@ -20,19 +20,20 @@ use Rattle.name_lookup.specs.Order.{lookup_plan, try_key, try_parts}
 use Rattle.name_lookup.specs.Plans.{Gives, LookupPlan, LookupResult, run_lookup_plan}
 use Rattle.name_lookup.specs.Targets.{AreLookupTargetsFound, last_lookup_keys, lookup_target_count}
 use Rattle.table_names.specs.Leads.{TableNameLookupLaw, table_word_lookup, table_word_targets}
-use Rattle.value_sources.specs.Leads.{first_kind_of_mentioned_word, source_key_at_place}
+use Rattle.live_table.specs.TableContents.{node_key_at}
+use Rattle.value_sources.specs.Leads.{first_kind_of_mentioned_word}
 use Rattle.value_sources.proofs.Placing.{placed_source_is_among}
 
 -- ---- the last keys of a list
-source_keys_from_place : (ks : List Key) (i : ℕ) → i < length ks → drop i ks ≡ source_key_at_place ks i ∷ drop
+source_keys_from_place : (ks : List Key) (i : ℕ) → i < length ks → drop i ks ≡ node_key_at ks i ∷ drop
     (suc i) ks
 source_keys_from_place [] i h = absurd (omega arith)
 source_keys_from_place (k ∷ ks) zero h = refl
 source_keys_from_place (k ∷ ks) (suc i) h = source_keys_from_place ks i (omega arith)
 
-last_source_key : (ks : List Key) (i : ℕ) → suc i ≡ length ks → drop i ks ≡ source_key_at_place ks i ∷ []
+last_source_key : (ks : List Key) (i : ℕ) → suc i ≡ length ks → drop i ks ≡ node_key_at ks i ∷ []
 last_source_key ks i e =
-    source_keys_from_place ks i (omega (arith, e)) ∙ ap (λ (xs : List Key). source_key_at_place ks i ∷ xs)
+    source_keys_from_place ks i (omega (arith, e)) ∙ ap (λ (xs : List Key). node_key_at ks i ∷ xs)
     (drop_all (suc i) ks (omega (arith, e)))
 
 -- ---- the targets that a search among the keys of a table found, if none was tried before
@@ -70,7 +71,7 @@ module _ (t : EntryTable) (u : WordUse) (tried : List Key) where
   none_found found = nil_from_length (table_word_targets t u) found.many
 
   pub one_found : AreLookupTargetsFound which.Last [] tried (table_word_lookup t u) → (i : ℕ) → i ≡ length tried - 1
-      → table_word_targets t u ≡ source_key_at_place tried i ∷ []
+      → table_word_targets t u ≡ node_key_at tried i ∷ []
   one_found found i e =
       let h : 1 ≤ length tried = enough t u which.Last tried found in
       targets_are t u which.Last tried found

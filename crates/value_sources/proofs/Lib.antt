@@ -11,7 +11,6 @@ pub mod Reached
 pub mod Reversing
 pub mod StepFaults
 pub mod Stored
-pub mod Trying
 pub mod Values
 pub mod WalkSteps
 pub mod Walking

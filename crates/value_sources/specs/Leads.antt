@@ -1,11 +1,10 @@
 -- The keys that a word leads to, as the code represents them.
-use Rattle.std.specs.Prelude.{ℕ, List, [], ◌∷◌, slice_index_or}
+use Rattle.std.specs.Prelude.{List, [], ◌∷◌}
 use Rattle.expr_tree.specs.declared.word_list.WordKind.{WordKind}
 use Rattle.expr_tree.specs.declared.word_list.WordKind.TheVariants as word_kind
 use Rattle.def_entry.specs.declared.key.Key.{Key}
 use Rattle.def_entry.specs.declared.key.Kind.{Kind}
 use Rattle.def_entry.specs.declared.key.Kind.TheVariants as kind
-use Rattle.def_entry.specs.Keys.{key}
 use Rattle.value_sources.specs.declared.word_keys.Lead.{Lead}
 use Rattle.value_sources.specs.declared.word_keys.Lead.TheVariants.{Nowhere, One, Two}
 
@@ -13,10 +12,6 @@ abbrev pub source_lead_keys : Lead → List Key
 source_lead_keys Nowhere = []
 source_lead_keys (One n) = n ∷ []
 source_lead_keys (Two n m) = n ∷ m ∷ []
-
--- the key at a place; its name is empty beyond the last
-abbrev pub source_key_at_place : List Key → ℕ → Key
-source_key_at_place keys n = slice_index_or keys n (key kind.Unit [])
 
 -- the kind of the key that the lookup of a word tries first
 abbrev pub first_kind_of_mentioned_word : WordKind → Kind

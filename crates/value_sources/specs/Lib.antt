@@ -10,7 +10,6 @@ pub mod Rows
 pub mod StepExamples
 pub mod StepFaults
 pub mod StoredMentions
-pub mod TriedKeys
 pub mod Uses
 pub mod Values
 pub mod Visits

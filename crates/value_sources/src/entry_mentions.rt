@@ -2,7 +2,6 @@
 
 ghost use Rattle.std.specs.Prelude.{◌≡◌, ◌++◌, OnOk, option_map};
 ghost use Rattle.std.specs.Option.{option_copied};
-ghost use Rattle.deck.specs.Tables.{table_of_deck};
 ghost use Rattle.def_entry.specs.Views.{entry_definition_view, function_entry_view};
 ghost use Rattle.expr_tree.specs.Trees.{syntax};
 ghost use Rattle.expr_tree.specs.Words.{words_in};
@@ -14,9 +13,9 @@ ghost use Rattle.value_sources.specs.Uses as uses;
 use crate::lookup::Lookup;
 use crate::mention::{Location, StoredMention};
 use crate::site::Site;
-use crate::tried_keys::TriedKeys;
 use def_entry::{FunctionDef, What};
 use expr_tree::{Tree, WordKind, WordUse, words};
+use live_table::TriedKeys;
 use std::alloc::AllocError;
 use units_io::Text;
 

@@ -2,7 +2,6 @@
 #![tactic(auto)]
 
 mod call_list;
-mod deck_table;
 mod entry_mentions;
 mod failing;
 mod failure;
@@ -16,7 +15,6 @@ mod querying;
 mod resolution;
 mod row;
 mod site;
-mod tried_keys;
 mod walk;
 mod word_keys;
 

@@ -3,15 +3,15 @@
 ghost use Rattle.std.specs.Prelude.{◌≡◌, ◌-◌, ◌≤◌, IfOk, length};
 ghost use Rattle.deck.specs.Tables.{table_of_deck};
 ghost use Rattle.table_names.specs.Leads.{table_word_targets};
+ghost use Rattle.live_table.specs.TableContents.{node_key_at};
 ghost use Rattle.value_sources.specs.Leads as spec;
-ghost use Rattle.value_sources.specs.Leads.{source_key_at_place, source_lead_keys};
+ghost use Rattle.value_sources.specs.Leads.{source_lead_keys};
 
-use crate::deck_table::DeckTable;
-use crate::tried_keys::TriedKeys;
 use crate::word_keys::Lead;
 use deck::Deck;
 use def_entry::{Key, Kind};
 use expr_tree::{WordKind, WordUse};
+use live_table::{DeckTable, TriedKeys};
 use name_lookup::{Targets, resolve};
 use std::alloc::{AllocError, Global};
 use table_names::lookup_law;
@@ -52,7 +52,7 @@ impl<'a> Lookup<'a> {
     fn last_key(&self, tried: &TriedKeys, back: usize) -> Result<Key, AllocError>
         requires some { 1 ≤ back }
         requires many { back ≤ length tried.now }
-        ensures { IfOk result (λ key. key ≡ source_key_at_place tried.now (length tried.now - back)) }
+        ensures { IfOk result (λ key. key ≡ node_key_at tried.now (length tried.now - back)) }
     {
         let place = tried.len() - back;
         let kind = tried.kind(place);

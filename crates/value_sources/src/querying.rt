@@ -6,11 +6,10 @@ ghost use Rattle.expr_tree.specs.Trees.{syntax};
 ghost use Rattle.value_sources.specs.FailedSteps as spec;
 
 use crate::lookup::Lookup;
-use crate::tried_keys::TriedKeys;
 use crate::word_keys::Lead;
 use def_entry::Kind;
 use expr_tree::{Tree, WordKind, WordUse};
-use live_table::LiveTable;
+use live_table::{LiveTable, TriedKeys};
 use quantity::Quantity;
 use std::alloc::{AllocError, Global};
 use std::sync::ledger::Ledger;

@@ -19,9 +19,9 @@ use crate::mention::{Location, StoredMention};
 use crate::mentions::push_reversed;
 use crate::row::Row;
 use crate::site::Site;
-use crate::tried_keys::TriedKeys;
 use deck::Deck;
 use expr_tree::Tree;
+use live_table::TriedKeys;
 use name_lookup::targets_are_present;
 use std::alloc::{AllocError, Global};
 
