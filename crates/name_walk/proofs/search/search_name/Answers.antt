@@ -1,7 +1,8 @@
-use Rattle.std.proofs.Common.{rules, arith, ◌≡◌, ◌+◌, ◌<◌, ◌≤◌, ◌^◌, ℕ, zero, suc, Bool, false, List, [], ◌∷◌, Option}
+use Rattle.std.proofs.Common.{arith, ◌≡◌, ◌<◌, ◌≤◌, ℕ, zero, suc, Bool, false, List, [], ◌∷◌, Option}
 use Rattle.std.proofs.Common.{Some, None, length, refl, sym, ap, subst, ◌∙◌, Vec, Global}
 use Rattle.std.specs.List.{slice_get}
 use Rattle.std.proofs.lemmas.Option.{slice_get_within}
+use Rattle.std.proofs.lemmas.Result.{IfOk-from_err}
 use Rattle.name_walk.specs.declared.mark.Mark.{Mark}
 use Rattle.name_walk.specs.declared.traces.Frame.{Frame}
 use Rattle.name_walk.specs.declared.trail.FaultyStep.{FaultyStep}
@@ -35,7 +36,7 @@ returns-in_err-enter-clause-can_clear c =
     c.requires.between.consistent.can_clear
 
 pub returns-in_err-enter-clause-found : goal.returns-in_err-enter-clause-found
-returns-in_err-enter-clause-found c = search rules
+returns-in_err-enter-clause-found c = IfOk-from_err _ _ c.from_residual.ensures.0
 
 pub loop-step-init : goal.loop-step-init
 loop-step-init c = record {
@@ -61,7 +62,7 @@ returns-in_err-close-clause-can_clear c =
     (clear_seek c.requires.net c.loop-step.invariant.go c.close.new.self c.in_err-close.ensures.err)
 
 pub returns-in_err-close-clause-found : goal.returns-in_err-close-clause-found
-returns-in_err-close-clause-found c = search rules
+returns-in_err-close-clause-found c = IfOk-from_err _ _ c.from_residual-in_err-close.ensures.0
 
 pub returns-in_default-pop-clause-can_clear : goal.returns-in_default-pop-clause-can_clear
 returns-in_default-pop-clause-can_clear c =
@@ -102,10 +103,8 @@ less_of_frame w {k = k} e l = of_frame (λ n p. w n p < k) e l
 
 pub next-here-requires : goal.next-here-requires
 next-here-requires c =
-    let h : c.in-Some-pop.above.place + 1 < 2 ^ 64 =
     room_seek c.requires.net c.loop-step.invariant.go (none_full _ _ c.step.ensures.step c.in_default.is)
-    c.in_ok-close.ensures.ok c.in-Some-pop.above c.pop.new.self c.in-Some-pop.ensures in
-    search rules
+    c.in_ok-close.ensures.ok c.in-Some-pop.above c.pop.new.self c.in-Some-pop.ensures
 
 pub loop-step-smaller-in_default : goal.loop-step-smaller-in_default
 loop-step-smaller-in_default c =
@@ -127,9 +126,7 @@ step_finding-requires c = record {
 }
 
 pub next-here-requires-in-Sound : goal.next-here-requires-in-Sound
-next-here-requires-in-Sound c =
-    let h : c.loop-step.here.place + 1 < 2 ^ 64 = c.in-Some.ensures.few in
-    search rules
+next-here-requires-in-Sound c = c.in-Some.ensures.few
 
 pub loop-step-smaller-in-Sound : goal.loop-step-smaller-in-Sound
 loop-step-smaller-in-Sound c =
@@ -144,7 +141,7 @@ returns-in_err-push-in-Open-clause-can_clear c =
     (clear_seek c.requires.net c.loop-step.invariant.go c.push.new.self c.in_err-push-in-Open.ensures.err)
 
 pub returns-in_err-push-in-Open-clause-found : goal.returns-in_err-push-in-Open-clause-found
-returns-in_err-push-in-Open-clause-found c = search rules
+returns-in_err-push-in-Open-clause-found c = IfOk-from_err _ _ c.from_residual-in_err-push-in-Open.ensures.0
 
 pub note_path-requires-clause-once : goal.note_path-requires-clause-once
 note_path-requires-clause-once c = c.loop-step.invariant.go.way.is_path.names_differ
@@ -177,7 +174,7 @@ returns-in_err-enter-in-Open-clause-can_clear c =
     (clear_seek c.requires.net c.loop-step.invariant.go c.loop-step.traces refl))
 
 pub returns-in_err-enter-in-Open-clause-found : goal.returns-in_err-enter-in-Open-clause-found
-returns-in_err-enter-in-Open-clause-found c = search rules
+returns-in_err-enter-in-Open-clause-found c = IfOk-from_err _ _ c.from_residual-in_err-enter-in-Open.ensures.0
 
 pub loop-step-smaller : goal.loop-step-smaller
 loop-step-smaller c =

@@ -1,6 +1,7 @@
-use Rattle.std.proofs.Common.{rules, arith, ◌≡◌, ◌<◌, ℕ, Bool, List, Some, get_or, length, sym, ap, subst, ◌∙◌}
+use Rattle.std.proofs.Common.{arith, ◌≡◌, ◌<◌, ℕ, Bool, List, Some, get_or, length, sym, ap, subst, ◌∙◌}
 use Rattle.std.specs.List.{slice_get}
 use Rattle.std.proofs.lemmas.Option.{slice_get-get_or}
+use Rattle.std.proofs.lemmas.Result.{IfOk-from_err}
 use Rattle.name_walk.specs.declared.step.Step.{Step}
 use Rattle.name_walk.specs.declared.step.Step.TheVariants.{Nowhere, To}
 use Rattle.name_walk.specs.Findings.{IsFirstFaultyWalkStep}
@@ -62,13 +63,13 @@ pub returns-in_err-is_faulty-clause-can_clear : goal.returns-in_err-is_faulty-cl
 returns-in_err-is_faulty-clause-can_clear c = c.in_err-is_faulty.ensures.can_clear
 
 pub returns-in_err-is_faulty-clause-between : goal.returns-in_err-is_faulty-clause-between
-returns-in_err-is_faulty-clause-between c = search rules
+returns-in_err-is_faulty-clause-between c = IfOk-from_err _ _ c.from_residual.ensures.0
 
 pub returns-in_err-is_faulty-clause-names : goal.returns-in_err-is_faulty-clause-names
-returns-in_err-is_faulty-clause-names c = search rules
+returns-in_err-is_faulty-clause-names c = IfOk-from_err _ _ c.from_residual.ensures.0
 
 pub returns-in_err-is_faulty-clause-found : goal.returns-in_err-is_faulty-clause-found
-returns-in_err-is_faulty-clause-found c = search rules
+returns-in_err-is_faulty-clause-found c = IfOk-from_err _ _ c.from_residual.ensures.0
 
 pub returns-then-branch-clause-can_clear : goal.returns-then-branch-clause-can_clear
 returns-then-branch-clause-can_clear c = c.in_ok-is_faulty.ensures.can_clear

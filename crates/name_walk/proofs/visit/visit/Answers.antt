@@ -1,4 +1,4 @@
-use Rattle.std.proofs.Common.{rules, arith, ◌≡◌, ◌+◌, ◌<◌, ◌≤◌, ◌^◌, ℕ, zero, suc, List, [], ◌∷◌, Option, Some, None}
+use Rattle.std.proofs.Common.{arith, ◌≡◌, ◌<◌, ◌≤◌, ℕ, zero, suc, List, [], ◌∷◌, Option, Some, None}
 use Rattle.std.proofs.Common.{length, refl, sym, ap, subst, ◌∙◌}
 use Rattle.std.specs.List.{slice_get}
 use Rattle.name_walk.specs.declared.traces.Frame.{Frame}
@@ -54,11 +54,9 @@ returns-in_default-clause-visited c =
 
 pub next-here-requires : goal.next-here-requires
 next-here-requires c =
-    let h : c.in-Some.above.place + 1 < 2 ^ 64 =
     room_at c.requires.net c.loop-traces.invariant
     (none_full _ _ c.step.ensures.step c.in-None.is) c.in_ok-close-in-None.ensures.ok
-    c.in-Some.above c.pop.new.self c.in-Some.ensures in
-    search rules
+    c.in-Some.above c.pop.new.self c.in-Some.ensures
 
 pub loop-traces-smaller-in-None : goal.loop-traces-smaller-in-None
 loop-traces-smaller-in-None c =
