@@ -84,8 +84,8 @@ module _ (s t : LinkOwners) (nodes : List ℕ) (n v : ℕ) (e : AreLinkEdges s.u
   name_old p l = ap (λ xs. get_or xs p 0) ns
       ∙ get_or_append_left s.names (v ∷ []) 0 p (let a = links.size in omega arith)
 
-  u_new : user t n ≡ n
-  u_new = ap (λ xs. get_or xs n 0) us ∙ get_or_push s.users n 0 n (sym is)
+  pub grown_head : user t n ≡ n
+  grown_head = ap (λ xs. get_or xs n 0) us ∙ get_or_push s.users n 0 n (sym is)
 
   old_at : (p : ℕ) → p < n → link_edge_at t p ≡ link_edge_at s p
   old_at p l =
@@ -96,7 +96,7 @@ module _ (s t : LinkOwners) (nodes : List ℕ) (n v : ℕ) (e : AreLinkEdges s.u
   pub grown_edges_shown : link_edges_below t (length t.users) ≡ link_edges_below s (length s.users)
   grown_edges_shown =
       ap (λ m. link_edges_below t m) (grown_size ∙ plus n)
-      ∙ (ap (λ es. es ++ link_edges_below t n) (head_is_no_link_edge t n u_new)
+      ∙ (ap (λ es. es ++ link_edges_below t n) (head_is_no_link_edge t n grown_head)
       ∙ (same_link_edges_below s t n old_at ∙ ap (λ m. link_edges_below s m) is))
     where
       plus : (k : ℕ) → k + 1 ≡ suc k
@@ -145,7 +145,7 @@ module _ (s t : LinkOwners) (nodes : List ℕ) (n v : ℕ) (e : AreLinkEdges s.u
       places = λ i l. elim (cases_eq i v) [
         | inl q ↦ subst (λ k. IsLinkHead t (get_or nodes2 k 0) × (get_or t.names (get_or nodes2 k 0) 0 ≡ k)) (sym q)
             (subst (λ x. IsLinkHead t x × (get_or t.names x 0 ≡ v)) (sym node_new)
-            ((let a = grown_size in omega arith, u_new, grown_zero), name_new))
+            ((let a = grown_size in omega arith, grown_head, grown_zero), name_new))
         | inr ne ↦
             let low : i < length nodes = let a = nodes_size in omega arith in
             let o = links.places i low in
@@ -248,7 +248,7 @@ module _ (s t : LinkOwners) (nodes : List ℕ) (n v : ℕ) (e : AreLinkEdges s.u
         spare_more : times 0 (set t.users n 0) - 1 ≡ (times 0 s.users - 1) + 1
         spare_more =
             let a = moved_link_raises_owned_count 0 t.users n (let z = grown_size in omega arith)
-            (λ z. grown_zero (sym u_new ∙ z)) in
+            (λ z. grown_zero (sym grown_head ∙ z)) in
             let b : times 0 t.users - 1 ≡ times 0 s.users - 1 =
             ap (λ xs. times 0 xs - 1) us ∙ sym (grown_links_keep_spare s.users n (times 0 s.users - 1) is refl) in
             let d = link_place_zero_owns_itself s.users some e.zero_owner in

@@ -8,6 +8,7 @@ mod RingJoins
 mod RingLeaves
 mod FreePlaces
 mod ColumnChanges
+mod ErrorExits
 mod FirstEdges
 pub mod Membership
 mod Moves
