@@ -2,19 +2,30 @@
 
 ghost use Rattle.std.specs.Prelude.{◌≡◌, IfOk, Ok, option_map};
 ghost use Rattle.std.specs.Option.{option_copied};
+ghost use Rattle.quantity.specs.Answers.{IsQuantityAnswer};
+ghost use Rattle.quantity.specs.Products.{quantity_product};
 ghost use Rattle.tree_eval.specs.Answers.{GivesValueOrFault, IsEvalResult, amount_of_held_value};
 ghost use Rattle.tree_eval.specs.Steps.{ValueOrFault, negative_value, value_one};
 
 use crate::fault::EvalFault;
-use quantity::Quantity;
+use quantity::{Quantity, QuantityFault};
 use std::alloc::{AllocError, Global};
 use std::mem;
 
 /// A quantity that is borrowed from an environment, or one that a step has computed.
-#[derive(Drop)]
 pub(crate) enum Held<'a> {
     Lent(&'a Quantity),
     Own(Quantity),
+}
+
+// Written by hand, so that code that drops a held quantity need not prove anything about the contents.
+impl Drop for Held<'_> {
+    fn drop(self) {
+        match self {
+            Held::Lent(_) => (),
+            Held::Own(_) => (),
+        }
+    }
 }
 
 impl<'a> Held<'a> {
@@ -62,6 +73,16 @@ impl<'a> Held<'a> {
         match self {
             Held::Lent(q) => q,
             Held::Own(q) => q,
+        }
+    }
+
+    // Returns a quantity times this one. The product reuses the names of an owned factor if it can.
+    pub(crate) fn multiply(self, alloc: Global, left: Quantity) -> Result<Quantity, QuantityFault>
+        ensures { IsQuantityAnswer result (quantity_product left (amount_of_held_value self.entry)) }
+    {
+        match self {
+            Held::Lent(right) => left.times(alloc, right),
+            Held::Own(right) => left.times_all(alloc, right),
         }
     }
 

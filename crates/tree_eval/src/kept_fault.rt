@@ -8,9 +8,15 @@ use std::marker::Model;
 
 /// A boxed fault. Few names and steps have a fault, but a fault may hold two quantities, which would make every outcome
 /// and every result as large. Contracts see the fault itself.
-#[derive(Drop)]
 pub struct KeptFault {
     fault: Box<ValueFault>,
+}
+
+// Written by hand, so that code that drops a fault need not prove anything about the contents.
+impl Drop for KeptFault {
+    fn drop(self) {
+        let KeptFault { fault: _ } = self;
+    }
 }
 
 impl Model for KeptFault {
@@ -37,7 +43,8 @@ impl KeptFault {
     pub fn into_fault(self) -> ValueFault
         ensures { result ≡ self }
     {
-        Box::into_inner(self.fault)
+        let KeptFault { fault } = self;
+        Box::into_inner(fault)
     }
 
     /// Borrows the fault.

@@ -77,7 +77,7 @@ pub(crate) fn evaluate_holder<'a, E: Env>(
 }
 
 /// The context of an expression.
-#[derive(Clone, Copy)]
+#[derive(Drop)]
 struct Scope<'a, E> {
     alloc: Global,
     env: &'a E,

@@ -136,10 +136,7 @@ impl Step {
         ensures { IsQuantityAnswer result (spec.operand_step self left (amount_of_held_value right.entry)) }
     {
         match self {
-            Step::Multiply => match right {
-                Held::Own(right) => left.times_all(alloc, right),
-                Held::Lent(right) => left.times(alloc, right),
-            },
+            Step::Multiply => right.multiply(alloc, left),
             _ => self.join_owned(alloc, left, right.get()),
         }
     }
