@@ -114,57 +114,57 @@ scope::Scope::power-evaluate-requires-2 g t c κs within =
 
 pub scope::Scope::evaluate-evaluate_juxtaposition-requires : goal.scope::Scope::evaluate-evaluate_juxtaposition-requires
 scope::Scope::evaluate-evaluate_juxtaposition-requires g t c κs within =
-    let is = juxtaposed_is (g.E.Env.means c.args.self.now.env.now) _
+    let is = juxtaposed_is (g.E.Env.means c.args.self.now.env.now) {e = syntax c.args.tree.now} _
     (ap syntax c.in-Juxtaposed.is ∙ c.view_law.ensures.juxtaposition c.in-Juxtaposed.trees) in
     search (rules, arith, chain_lighter is, chain_stands is _ _ c.requires)
 
 pub scope::Scope::evaluate-returns-in-Juxtaposed-clause-worth
     : goal.scope::Scope::evaluate-returns-in-Juxtaposed-clause-worth
 scope::Scope::evaluate-returns-in-Juxtaposed-clause-worth g t c =
-    let is = juxtaposed_is (g.E.Env.means c.args.self.now.env.now) _
+    let is = juxtaposed_is (g.E.Env.means c.args.self.now.env.now) {e = syntax c.args.tree.now} _
     (ap syntax c.in-Juxtaposed.is ∙ c.view_law.ensures.juxtaposition c.in-Juxtaposed.trees) in
     chain_gives is _ _ _ c.evaluate_juxtaposition.ensures.worth
 
 pub scope::Scope::evaluate-returns-in-Juxtaposed-clause-place
     : goal.scope::Scope::evaluate-returns-in-Juxtaposed-clause-place
 scope::Scope::evaluate-returns-in-Juxtaposed-clause-place g t c =
-    let is = juxtaposed_is (g.E.Env.means c.args.self.now.env.now) _
+    let is = juxtaposed_is (g.E.Env.means c.args.self.now.env.now) {e = syntax c.args.tree.now} _
     (ap syntax c.in-Juxtaposed.is ∙ c.view_law.ensures.juxtaposition c.in-Juxtaposed.trees) in
     chain_ends is _ _ _ c.evaluate_juxtaposition.ensures.place
 
 pub scope::Scope::evaluate-chain-requires : goal.scope::Scope::evaluate-chain-requires
 scope::Scope::evaluate-chain-requires g t c κs within =
-    let is = product_is (g.E.Env.means c.args.self.now.env.now) _
+    let is = product_is (g.E.Env.means c.args.self.now.env.now) {e = syntax c.args.tree.now} _
     (ap syntax c.in-Product.is ∙ c.view_law.ensures.product c.in-Product.factors) in
     search (rules, arith, chain_lighter is, chain_stands is _ _ c.requires)
 
 pub scope::Scope::evaluate-returns-in-Product-clause-worth : goal.scope::Scope::evaluate-returns-in-Product-clause-worth
 scope::Scope::evaluate-returns-in-Product-clause-worth g t c =
-    let is = product_is (g.E.Env.means c.args.self.now.env.now) _
+    let is = product_is (g.E.Env.means c.args.self.now.env.now) {e = syntax c.args.tree.now} _
     (ap syntax c.in-Product.is ∙ c.view_law.ensures.product c.in-Product.factors) in
     chain_gives is _ _ _ c.chain.ensures.worth
 
 pub scope::Scope::evaluate-returns-in-Product-clause-place : goal.scope::Scope::evaluate-returns-in-Product-clause-place
 scope::Scope::evaluate-returns-in-Product-clause-place g t c =
-    let is = product_is (g.E.Env.means c.args.self.now.env.now) _
+    let is = product_is (g.E.Env.means c.args.self.now.env.now) {e = syntax c.args.tree.now} _
     (ap syntax c.in-Product.is ∙ c.view_law.ensures.product c.in-Product.factors) in
     chain_ends is _ _ _ c.chain.ensures.place
 
 pub scope::Scope::evaluate-chain-requires-in-Sum : goal.scope::Scope::evaluate-chain-requires-in-Sum
 scope::Scope::evaluate-chain-requires-in-Sum g t c κs within =
-    let is = sum_is (g.E.Env.means c.args.self.now.env.now) _
+    let is = sum_is (g.E.Env.means c.args.self.now.env.now) {e = syntax c.args.tree.now} _
     (ap syntax c.in-Sum.is ∙ c.view_law.ensures.sum c.in-Sum.terms) in
     search (rules, arith, chain_lighter is, chain_stands is _ _ c.requires)
 
 pub scope::Scope::evaluate-returns-in-Sum-clause-worth : goal.scope::Scope::evaluate-returns-in-Sum-clause-worth
 scope::Scope::evaluate-returns-in-Sum-clause-worth g t c =
-    let is = sum_is (g.E.Env.means c.args.self.now.env.now) _
+    let is = sum_is (g.E.Env.means c.args.self.now.env.now) {e = syntax c.args.tree.now} _
     (ap syntax c.in-Sum.is ∙ c.view_law.ensures.sum c.in-Sum.terms) in
     chain_gives is _ _ _ c.chain-in-Sum.ensures.worth
 
 pub scope::Scope::evaluate-returns-in-Sum-clause-place : goal.scope::Scope::evaluate-returns-in-Sum-clause-place
 scope::Scope::evaluate-returns-in-Sum-clause-place g t c =
-    let is = sum_is (g.E.Env.means c.args.self.now.env.now) _
+    let is = sum_is (g.E.Env.means c.args.self.now.env.now) {e = syntax c.args.tree.now} _
     (ap syntax c.in-Sum.is ∙ c.view_law.ensures.sum c.in-Sum.terms) in
     chain_ends is _ _ _ c.chain-in-Sum.ensures.place
 
