@@ -1,6 +1,6 @@
 //! The words of an entry.
 
-ghost use Rattle.std.specs.Prelude.{◌≡◌, ◌++◌, ◌∷◌, [], IfOk, OnOk, option_map};
+ghost use Rattle.std.specs.Prelude.{◌≡◌, ◌++◌, ◌∷◌, [], IfOk, OnOk, length, option_map};
 ghost use Rattle.std.specs.Option.{option_copied};
 ghost use Rattle.expr_tree.specs.Trees.{syntax};
 ghost use Rattle.expr_tree.specs.Words.{words_in};
@@ -81,18 +81,29 @@ fn put_function<'a>(
     requires { words.old ≡ [] }
     ensures { IfOk result (λ starts. AreNodeEntryWords (Function (function_entry_view function.now)) words.new starts) }
 {
-    put_words_if(alloc, words, function.in_unit.as_ref())?;
-    let out_unit = start_of(words.len())?;
-    put_words_if(alloc, words, function.out_unit.as_ref())?;
-    let forward = start_of(words.len())?;
-    put_words(alloc, words, &function.forward)?;
-    let inverse = start_of(words.len())?;
+    let out_unit = put_part(alloc, words, function.in_unit.as_ref())?;
+    let forward = put_part(alloc, words, function.out_unit.as_ref())?;
+    let inverse = put_part(alloc, words, Some(&function.forward))?;
     put_words_if(alloc, words, function.inverse.as_ref())?;
     Ok(PartStarts {
         out_unit,
         forward,
         inverse,
     })
+}
+
+// Appends the words of an optional tree, and returns the start of the words after them.
+fn put_part<'a>(
+    alloc: Global,
+    words: &mut Words<'a>,
+    tree: Option<&'a Tree>,
+) -> Result<u32, AllocError>
+    ensures words { OnOk result
+        (words.new ≡ words.old ++ eval_tree_words_if (option_map syntax (option_copied tree.entry))) }
+    ensures start { IfOk result (λ start. start ≡ length words.new) }
+{
+    put_words_if(alloc, words, tree)?;
+    start_of(words.len())
 }
 
 // Converts a count of words into a start. No memory holds so many words that it would not fit.
