@@ -16,10 +16,12 @@ use Rattle.value_sources.specs.declared.mention.Location.{Location}
 use Rattle.value_sources.specs.declared.mention.StoredMention.{StoredMention}
 use Rattle.value_sources.specs.declared.resolution.Resolution.{Resolution}
 use Rattle.value_sources.specs.declared.resolution.Resolution.TheVariants.{Name, Plural, Prefix, PrefixedUnit}
+use Rattle.value_sources.specs.declared.row.Row.{Row as StoredRow}
 use Rattle.value_sources.specs.declared.site.Site.{Site}
 use Rattle.value_sources.specs.Mentions.{mention_by, mention_text, sole_mention_resolution}
 use Rattle.value_sources.specs.PlacedMentions.{PlacedMention, mention_with_place, placed_mentions_to}
 use Rattle.value_sources.specs.StoredMentions.{mention_key_of_place, placed_mention_in, placed_mention_list}
+use Rattle.value_sources.specs.StoredMentions.{source_row_in, source_rows_in}
 use Rattle.value_sources.specs.Uses.{source_use_at}
 use Rattle.value_sources.proofs.Placing.{source_entry_has_place, source_key_is_at_its_place}
 
@@ -105,6 +107,10 @@ first_mentions_pushed d empty found fresh now all e f put pushed =
     ∙ (ap reverse (map_reversed (placed_mention_in d) found)
     ∙ (reverse-reverse (placed_mention_list d found)
     ∙ (put ∙ ap (λ (ms : List StoredMention). placed_mention_list d ms ++ all) e)))
+
+pub source_row_pushed : (d : DeckContents) (before now : List StoredRow) (r : StoredRow) → now ≡ before ++ r ∷ []
+    → source_rows_in d now ≡ source_rows_in d before ++ source_row_in d r ∷ []
+source_row_pushed d before now r e = ap (source_rows_in d) e ∙ map-append (source_row_in d) before (r ∷ [])
 
 -- ---- the mentions of a word that leads nowhere, to one key, or to a prefix and a unit
 

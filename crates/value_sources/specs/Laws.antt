@@ -9,7 +9,7 @@ use Rattle.table_names.specs.Leads.{TableWordsReach}
 use Rattle.value_sources.specs.Rows.{AreSourceRowsOf, SourceRow, visited_keys}
 
 -- law: the words of an expression have at most one list of rows. The keys that the rows visit are exactly those that
--- the words reach, each once. A `Walk` that ends has given this list.
+-- the words reach, each once. The call `rows` shows that there is such a list by returning it.
 pub record SourceRowsLaw : Type 0 where
   pub one_list : (table : EntryTable) (words : List WordUse) (rows others : List SourceRow)
       → AreSourceRowsOf table words rows

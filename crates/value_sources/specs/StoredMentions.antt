@@ -33,3 +33,6 @@ placed_mention_list d ms = map (placed_mention_in d) ms
 
 abbrev pub source_row_in : DeckContents → StoredRow → SourceRow
 source_row_in d r = record { mention = mention_in d r.mention; is_visit = r.is_visit }
+
+abbrev pub source_rows_in : DeckContents → List StoredRow → List SourceRow
+source_rows_in d rows = map (source_row_in d) rows

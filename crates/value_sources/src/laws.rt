@@ -9,7 +9,7 @@ ghost use Rattle.value_sources.specs.Values.{SourceValueLaw};
 
 use table_names::{closed_law, closed_meaning_law, kind_law};
 
-/// An expression has at most one list of rows, and the keys that they visit are exactly those that it reaches, each
+/// An expression has exactly one list of rows, and the keys that they visit are exactly those that it reaches, each
 /// once.
 pub fn rows_law()
     ensures { SourceRowsLaw }

@@ -27,4 +27,4 @@ pub use mention::StoredMention;
 pub use resolution::Resolution;
 pub use row::Row;
 pub use site::Site;
-pub use walk::Walk;
+pub use walk::{Walk, rows};

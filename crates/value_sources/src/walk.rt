@@ -2,13 +2,13 @@
 
 ghost use Rattle.std.specs.Prelude.{◌≡◌, ◌+◌, [], IfOk, List, OnOk, Some, reverse, set, true};
 ghost use Rattle.def_entry.specs.declared.key.Key.{Key as AnyKey};
-ghost use Rattle.deck.specs.Tables.{table_of_deck};
+ghost use Rattle.deck.specs.Tables as tables;
 ghost use Rattle.expr_tree.specs.Trees.{syntax};
 ghost use Rattle.expr_tree.specs.Words.{words_in};
 ghost use Rattle.expr_tree.specs.declared.word_list.WordUse.{WordUse as AnyWord};
+ghost use Rattle.value_sources.specs.Rows as rows_spec;
 ghost use Rattle.value_sources.specs.PlacedMentions.{placed_mentions};
-ghost use Rattle.value_sources.specs.Rows.{SourceRow};
-ghost use Rattle.value_sources.specs.StoredMentions.{mention_in, placed_mention_list};
+ghost use Rattle.value_sources.specs.StoredMentions.{mention_in, placed_mention_list, source_rows_in};
 ghost use Rattle.value_sources.specs.declared.site.Site.TheVariants as site;
 ghost use Rattle.value_sources.specs.Uses.{key_source_uses, source_uses_at};
 ghost use Rattle.value_sources.specs.Visits.{unmarked_mention_place};
@@ -60,7 +60,7 @@ impl Walk {
     /// Returns the next row, or `None` after the last one. The deck must be that of the whole walk. The cost is
     /// proportional to the words of the entry, if the row visits its key. The only error is lack of memory.
     pub fn next(&mut self, alloc: Global, deck: &Deck) -> Result<Option<Row>, AllocError>
-        ensures { IfOk result (λ next. (words : List AnyWord) (rows : List SourceRow)
+        ensures { IfOk result (λ next. (words : List AnyWord) (rows : List rows_spec.SourceRow)
             → spec.IsSourceWalk deck.now words rows self.old → spec.IsNextSourceRow deck.now words rows self.new next) }
     {
         targets_are_present();
@@ -90,6 +90,19 @@ impl Walk {
     {
         self.pending.as_slice()
     }
+}
+
+/// Returns all rows of an expression. The only error is lack of memory.
+pub fn rows(alloc: Global, deck: &Deck, tree: &Tree) -> Result<Vec<Row>, AllocError>
+    ensures { IfOk result (λ rows. rows_spec.AreSourceRowsOf (tables.table_of_deck deck.now)
+        (words_in (syntax tree.now)) (source_rows_in deck.now rows.items)) }
+{
+    let mut walk = Walk::new(alloc, deck, tree)?;
+    let mut rows = Vec::new(alloc);
+    while let Some(row) = walk.next(alloc, deck)? {
+        rows.push(row)?;
+    }
+    Ok(rows)
 }
 
 // Returns the mentions of the words of an expression, the first one last.
@@ -155,7 +168,7 @@ fn put_found(
     ensures { OnOk result ((n : AnyKey) → (mention_in lookup.now.deck.now mention.now).target ≡ Some n
         → placed_mention_list lookup.now.deck.now found.new.items
         ≡ placed_mentions lookup.now.deck.now (mention.now.location.depth + 1)
-        (key_source_uses (table_of_deck lookup.now.deck.now) n)) }
+        (key_source_uses (tables.table_of_deck lookup.now.deck.now) n)) }
 {
     // No memory holds so many entries that the depth of a word would not fit.
     let Some(depth) = mention.location.depth.checked_add(1) else {
