@@ -1,6 +1,6 @@
-Columns: `--column K` converts field K of each record of comma-separated input from FROM to TO; all else stays as it is.
+Columns: `--column K` converts field K of each record of comma-separated input from FROM to TO, and copies the others.
 
-With a header, which is not converted; a field that is no number is an error, and a record without the field stays.
+The header is not converted. A field that is no number becomes an error, and a record without the field is copied.
 
   $ printf 'id,len\na,10\nb,x\nc\n' | units --header --column 2 feet m
   id,len
@@ -9,14 +9,14 @@ With a header, which is not converted; a field that is no number is an error, an
   c
   [1]
 
-A function as FROM, and a number outside of its domain. Quotes stand where they are needed.
+A function as FROM, and a number outside its domain. Quotes are written if they are needed.
 
   $ printf '212,"x,y"\n-460,z\n' | units --column 1 tempF tempC
   100,"x,y"
   error: not in domain: tempF,z
   [1]
 
-No input at all, a header alone, a column beyond all records.
+Empty input, a header alone, and a column that no record has.
 
   $ printf '' | units --column 1 m ft
 
@@ -27,7 +27,8 @@ No input at all, a header alone, a column beyond all records.
   a,1
   b
 
-Needless quotes, carriage returns, empty lines and a byte order mark go; records have any lengths, and bytes need not be UTF-8.
+Needless quotes, carriage returns, empty lines and a byte order mark are dropped. Records have any number of fields, and
+bytes need not be UTF-8.
 
   $ printf '"a ""b""",1\r\n,2\n\n x ,3,\n"c",4,"d\ne",""\n' | units --column 2 ft in
   "a ""b""",12
@@ -41,7 +42,7 @@ Needless quotes, carriage returns, empty lines and a byte order mark go; records
   12,\xff (esc)
   [1]
 
-Blanks around a number are dropped, and a minus may stand before it. A fraction or a sum is no number.
+Blanks around a number are dropped, and a minus may precede it. A fraction or a sum is no number.
 
   $ printf ' 7 \n-3\n1.5e1\n.5\n1|3\n1+1\n- 3\n+3\n""\n' | units --column 1 ft in
   84
@@ -55,7 +56,7 @@ Blanks around a number are dropped, and a minus may stand before it. A fraction 
   error: not a number
   [1]
 
-A numeral past its limits, a FROM that has no value or another kind of value, one that is no expression.
+A numeral that is too long, and a FROM that has no value, does not conform to TO, or is no expression.
 
   $ printf '1e99999\n1\n' | units --column 1 ft in
   error: numeral too long
@@ -72,7 +73,7 @@ A numeral past its limits, a FROM that has no value or another kind of value, on
   b,error: syntax error at 8
   [1]
 
-Lists, and the options that have an effect: digits, exact numbers and rounding. Those of the layout have none.
+Lists, and the options that have an effect: digits, exact numbers and rounding. Options of the layout have none.
 
   $ printf '1.4\n' | units --column 1 m 'ft;in'
   4;7.1181102
@@ -83,7 +84,7 @@ Lists, and the options that have an effect: digits, exact numbers and rounding. 
   $ printf '1\n' | units --exact --one-line --column 1 ft m
   381|1250
 
-Notices of the definitions stand on standard error.
+Notices of the definitions are on standard error.
 
   $ printf 'm !\n!endvar\nft 3 m\n' > notices.units
   $ printf '2\n' | units -f notices.units --column 1 ft m 2> notices
@@ -91,7 +92,7 @@ Notices of the definitions stand on standard error.
   $ cat notices
   notices.units:2: stray end
 
-No definitions, no input and no output that is written.
+Definitions and input that cannot be read, and output that cannot be written.
 
   $ printf '1\n' | units -f gone.units --column 1 ft m
   units: no file: gone.units
@@ -101,7 +102,7 @@ No definitions, no input and no output that is written.
   $ printf '1\n' | units --column 1 ft m > /dev/full
   [5]
 
-As much input as is taken, and a byte more.
+The greatest length of input, and one byte more.
 
   $ { head -c 16777214 /dev/zero | tr '\0' 'x'; printf '\n1'; } | units --column 1 ft in | tail -n 1
   12

@@ -1,9 +1,9 @@
-Conversions over the definitions that are built in. The values are those of the units as they are defined, by hand.
-What stands on standard error is marked.
+Conversions with the built-in definitions. The expected values are computed by hand from the definitions of the units.
+`err: ` marks lines of standard error.
 
   $ units() { command units "$@" 2> err; status=$?; sed 's/^/err: /' err; return $status; }
 
-Both ways, with 8 digits, with others, and exactly.
+Both numbers, with 8 digits, with other numbers of digits, and exactly.
 
   $ units "10 meters" feet
   \t* 32.808399 (esc)
@@ -30,7 +30,7 @@ Both ways, with 8 digits, with others, and exactly.
   unknown unit: berries
   [1]
 
-Only the forward line, and one that begins with a sign.
+Only the first number, and a FROM that begins with a sign.
 
   $ units -1 "10 meters" feet
   \t* 32.808399 (esc)
@@ -38,7 +38,7 @@ Only the forward line, and one that begins with a sign.
   \t* -2 (esc)
   \t/ -0.5 (esc)
 
-Nothing as a part of something.
+A FROM of 0, and a TO of 0.
 
   $ units "0 m" ft
   \t* 0 (esc)
@@ -47,7 +47,7 @@ Nothing as a part of something.
   division by zero
   [1]
 
-Reciprocal conversions, in each layout, and without them.
+Reciprocal conversions, in each layout, and with `-s` and `-t`, which refuse them.
 
   $ units "2 Hz" s
   \treciprocal conversion (esc)
@@ -76,7 +76,7 @@ Reciprocal conversions, in each layout, and without them.
   1 s
   [1]
 
-The texts in the reply. A compact reply is never verbose.
+A verbose reply has the texts of FROM and TO. A compact reply is never verbose.
 
   $ units -v "10 meters" feet
   \t10 meters = 32.808399 feet (esc)
@@ -85,7 +85,8 @@ The texts in the reply. A compact reply is never verbose.
   32.808399
   0.03048
 
-What a text is worth, with the text of a unit's own definition. A blank TO is none, and a comment is no part of a word.
+The value of an expression, after the text of the definition if it is a unit. A blank TO counts as none, and a comment
+is no part of a word.
 
   $ units "1/2 m"
   \tDefinition: 0.5 / m (esc)
@@ -107,7 +108,7 @@ What a text is worth, with the text of a unit's own definition. A blank TO is no
   $ units "3 - (-2)^2"
   \tDefinition: -1 (esc)
 
-The largest number, the least, and what is beyond.
+The largest number, a very small one, and numbers beyond the limits.
 
   $ units --exact "2^126 - 1 + 2^126"
   \tDefinition: 170141183460469231731687303715884105727 (esc)
@@ -134,7 +135,7 @@ The largest number, the least, and what is beyond.
   numeral too long
   [1]
 
-Numbers whose values would have thousands of digits are refused, or have none of them, at once.
+Numbers that are written with thousands of digits, and large powers, are evaluated or refused at once.
 
   $ zeros() { head -c $1 /dev/zero | tr '\0' 0; }
   $ units "0.$(zeros 100000)"
@@ -167,7 +168,7 @@ Numbers whose values would have thousands of digits are refused, or have none of
   division by zero
   [1]
 
-Of two nearest numbers the even one, and where both last digits are odd the greater.
+A number halfway between two others is rounded to the one with an even last digit.
 
   $ units -d 1 2.5
   \tDefinition: 2 (esc)
@@ -215,7 +216,7 @@ Roots, and exponents that are fractions.
   exponent out of range
   [1]
 
-Faults of values and of texts. The first one is the whole reply.
+Faults of values and of texts. The first fault is the whole reply.
 
   $ units "2 m + 3 s"
   sum of unlike units: 2 m and 3 s
@@ -249,8 +250,8 @@ Faults of values and of texts. The first one is the whole reply.
   syntax error at 0
   [1]
 
-Names of 15, 16 and 17 bytes, which lie in a value or beside it, and of as many as may be: in one product, and asked
-again behind edits of one of them.
+Names of 15 and 16 bytes, which are stored inline, and of 17 and 255 bytes, which are not: in one product, and asked for
+again after edits of one of them.
 
   $ name() { printf "%$2s" | tr ' ' "$1"; }
   $ for n in 15 16 17 255; do echo "$(name a $n) !"; done > long.units
@@ -268,7 +269,7 @@ again behind edits of one of them.
   \t6 aaaaaaaaaaaaaaa aaaaaaaaaaaaaaaa (esc)
   \t1 aaaaaaaaaaaaaaaaa (esc)
 
-Names that nobody defines, that are refused, and a function without an argument.
+An unknown unit, a refused function, and a function without an argument.
 
   $ units "sinn(1)"
   unknown unit: sinn
@@ -280,7 +281,7 @@ Names that nobody defines, that are refused, and a function without an argument.
   argument needed: tempF
   [1]
 
-The definitions that are built in have no fault and no notice.
+The built-in definitions have no faults and no notices. The locale decides what a gallon is.
 
   $ units --check
   $ units "gallon" liter

@@ -1,11 +1,12 @@
-Decks, by the calls of the crate deck: `load FILE` and `text FILE` (the file alone, in which each include
-is of an absent file) give a deck; `define LINE`, `drop KEY`, `append FILE`, `switch` and
-`splice AT CUT LINE;LINE..` edit it and answer the keys whose entries differ; `back` makes the inverse of
-the last splice. `locale L` and `set VAR VALUE` are the settings of what comes after. A line is shown with
-its number, and with a `~` where it stays without effect. The answers are those of an independent
-reading of the format, by tools/comparisons/compare_decks.py --answer.
+Decks, as `test_decks decks` answers calls on them. `load FILE` and `text FILE` give a deck; `text` reads this file
+alone, and its includes count as absent. `define LINE`, `drop KEY`, `append FILE`, `switch` and
+`splice AT CUT LINE;LINE..` edit it and print the keys whose entries differ; `back` makes the inverse of the last
+splice. `locale L` and `set VAR VALUE` are settings for later loads and edits. A line is shown with its number, and with
+a `~` if it has no effect. The answers come from an independent reading of the format,
+tools/comparisons/compare_decks.py --answer.
 
-An include stands beside its includer, not beside the first file. One that begins with `/` is taken as it is.
+An include is relative to the folder of its includer, not of the first file. A path that begins with `/` is used as it
+is.
 
   $ mkdir sub sub/deep
   $ printf 'm !\n!include sub/b.units\nlast m\n' > a.units
@@ -34,7 +35,7 @@ An include stands beside its includer, not beside the first file. One that begin
   ok
   ./sub/deep/d.units:3: no file: /no/such.units
 
-The same files where nothing but the first is read.
+The same files, if only the first one is read.
 
   $ test_decks decks <<'END'
   > text a.units
@@ -79,7 +80,8 @@ Absent files and files that are too long. A file of the greatest length is read.
   1 m ! | 2 ~!include none.units | 3 ~!include long.units | 4 !include longest.units | 5 a m
   e.units:2: no file: none.units | e.units:3: file too long: long.units
 
-Files that include one another, down to the depth of 16. The next one is not looked for: there is none.
+Files that include one another, 16 deep. A deeper include is refused before its file is looked for: in_17.units does not
+exist.
 
   $ for i in $(seq 0 15); do printf 'u_%s0 !\n!include in_%s.units\n' $i $((i + 1)) > in_$i.units; done
   $ printf 'u_160 !\n' > in_16.units
@@ -113,7 +115,7 @@ Files that include one another, down to the depth of 16. The next one is not loo
   16 units, 0 prefixes, 0 functions, 0 lists, 32 lines, 1 notices
   in_16.units:1: no file: in_17.units
 
-A file that includes itself in each of its lines but one is read 17 times.
+A file that includes itself is read 17 times.
 
   $ printf 'm !\n!include self.units\n!endvar\n' > self.units
   $ test_decks decks <<'END'
@@ -125,7 +127,7 @@ A file that includes itself in each of its lines but one is read 17 times.
   1 units, 0 prefixes, 0 functions, 0 lists, 51 lines, 18 notices
   self.units:2: include too deep: self.units | self.units:3: stray end | self.units:3: stray end | self.units:3: stray end | self.units:3: stray end | self.units:3: stray end | self.units:3: stray end | self.units:3: stray end | self.units:3: stray end | self.units:3: stray end | self.units:3: stray end | self.units:3: stray end | self.units:3: stray end | self.units:3: stray end | self.units:3: stray end | self.units:3: stray end | self.units:3: stray end | self.units:3: stray end
 
-A file that cannot be read ends the load and the append, which leave the deck as it was.
+If a file cannot be read, the load or the append fails and leaves the deck as it was.
 
   $ printf 'm !\n!include sub\n' > f.units
   $ printf 'n !\n!include f.units\n' > g.units
@@ -168,7 +170,8 @@ A file that cannot be read ends the load and the append, which leave the deck as
   changed: c
   different
 
-Each of the fetches of a file in turn, of which the third is that of a file in an open block. The same file with no such fetch is put behind the lines afterwards.
+One file of four cannot be read, each in turn; the third is included within an open block. Then the same files, all of
+them readable, are appended.
 
   $ mkdir -p whole/sub
   $ printf 'ell !\n!include sub/b\n!include d\nlast 2 ell\n' > whole/a
@@ -225,8 +228,8 @@ Stray ends, and blocks that are closed in the wrong order.
   h.units:1: stray end | h.units:4: stray end | h.units:7: stray end | h.units:10: stray end
   a | m
 
-Each kind of block that is not closed at the end of an included file, and of the first one. The missing ends come the
-innermost first, with the numbers of the lines that opened their blocks, and the notices in the order of those lines.
+Blocks that are not closed at the end of an included file, and of the first one. The missing ends are added, innermost
+first, with the numbers of the lines that open the blocks. The notices are in the order of these lines.
 
   $ printf '!locale en_US\n!var V x\nv 1 m\n!endvar\n!varnot V x\n\n!utf8\ni 2 m\n' > open.units
   $ printf 'm !\n!locale en_GB\n!include open.units\n!endutf8\nno 2 m\n' > j.units
@@ -261,8 +264,8 @@ innermost first, with the numbers of the lines that opened their blocks, and the
   open.units:1: unclosed block | open.units:5: unclosed block | open.units:7: unclosed block
   1 units, 0 prefixes, 0 functions, 0 lists, 20 lines, 3 notices
 
-The four kinds of blocks not closed one in another, at the end of a first file and of an included one, whose includer leaves
-a `!var` block open too.
+All four kinds of blocks are open, one in another, at the end of a first file, and of an included one whose includer
+leaves a `!var` block open too.
 
   $ printf '!utf8\n!varnot V x\n!var V x\na 1 m\n!locale en_US\n' > four.units
   $ printf 'm !\n!var V x\n!include four.units\nb 1 m\n' > five.units
@@ -287,7 +290,7 @@ a `!var` block open too.
   ok
   changed: b
 
-A file that is cut off in a continuation, and one in the name of an include.
+A file that ends within a continued line, and one that ends within a continued include line.
 
   $ printf 'm !\nft 12 \\\n  in\\' > k.units
   $ printf 'in m\n!include \\\n k.units \\\n' > l.units
@@ -304,7 +307,7 @@ A file that is cut off in a continuation, and one in the name of an include.
   1 in m | 2 !include   k.units | 1 m ! | 2 ft 12    in
   12    in
 
-Lines that are refused stay, and have no effect.
+Refused lines stay in the deck and have no effect.
 
   $ printf 'm !\nh- \n1a m\n!nosuch\n!var V\n!include\n!locale a b\na 3 *\nt[m] 1 2\nf() \n a 2 m \n\na\t5  m\n' > n.units
   $ test_decks decks <<'END'
@@ -330,8 +333,8 @@ Lines that are refused stay, and have no effect.
   no such key
   1 units, 0 prefixes, 0 functions, 0 lists, 10 lines, 9 notices
 
-A variable in a list of several values, and one that is not set, for which each `!varnot` block holds. The words of
-values are parted by blanks of both kinds.
+A variable is compared with a list of values, which blanks or tabs separate. Each `!varnot` block holds for a variable
+that is not set.
 
   $ printf 'm !\n!var V x y\na 1 m\n!endvar\n!var V y\tz\nb 1 m\n!endvar\n!varnot V x\nc_0 1 m\n!endvar\n!var V xy\nd 1 m\n!endvar\n' > o.units
   $ test_decks decks <<'END'
@@ -359,7 +362,8 @@ values are parted by blanks of both kinds.
   c_0 | m
   en_US | V x y
 
-Of two `!set` lines the first counts, and the settings count before both. One in a block that does not hold sets nothing.
+The first of two `!set` lines counts, and a setting takes precedence over both. A `!set` line in a block that does not
+hold sets nothing.
 
   $ printf 'm !\n!set V x\n!set V y\n!var V x\na 1 m\n!endvar\n!var V y\na 2 m\n!endvar\n' > p.units
   $ printf 'm !\n!locale de_DE\n!set V x\n!endlocale\n!var V x\na 1 m\n!endvar\n!set V y z\n!var V y z\na 2 m\n!endvar\n!varnot V y z\na 3 m\n!endvar\n' > q.units
@@ -400,7 +404,8 @@ Of two `!set` lines the first counts, and the settings count before both. One in
   changed: none
   3 m
 
-A variable that a file sets is in force in those that it includes and behind them; so is one that an included file sets.
+A variable that a file sets is also set in the files that it includes, and after them. So is one that an included file
+sets.
 
   $ printf '!set V x\n!include s.units\n!var W y\na 1 m\n!endvar\n' > r.units
   $ printf '!var V x\nb 1 m\n!set W y\n!endvar\n' > s.units
@@ -421,7 +426,7 @@ A variable that a file sets is in force in those that it includes and behind the
   changed: b
   changed: a
 
-Messages, in force and not, one without text and one with blanks.
+Messages in force and not in force, one without text and one with blanks.
 
   $ printf '!message hello\n!message\n!locale en_GB\n!message  cheerio \n!endlocale\n!message a  b # c\n!prompt no\n!var V x\n!message x\n!endvar\n!endvar\n' > t.units
   $ test_decks decks <<'END'
@@ -445,7 +450,7 @@ Messages, in force and not, one without text and one with blanks.
   hello |  | cheerio | a  b | x
   0 units, 0 prefixes, 0 functions, 0 lists, 11 lines, 1 notices
 
-The two gallons of the built-in definitions, to and fro. Where neither locale is in force there is none.
+The two gallons of the built-in definitions, to and fro. In another locale there is none.
 
   $ test_decks decks <<END
   > text $BUILTIN
@@ -488,8 +493,8 @@ The two gallons of the built-in definitions, to and fro. Where neither locale is
   en_US
   43 units, 18 prefixes, 4 functions, 2 lists, 72 lines, 0 notices
 
-`define` of what stands already, of a new entry of an old key, of each kind of key, and of lines that are no definition.
-A line is trimmed, and has the number 0. Two entries are equal exactly where their texts are.
+`define` of an entry that exists, of a new entry for an old key, of each kind of key, and of lines that are no
+definitions. A line is trimmed, and has the number 0. Two entries are equal exactly if their texts are.
 
   $ printf 'm !\na 2 m\n' > u.units
   $ test_decks decks <<'END'
@@ -549,8 +554,8 @@ A line is trimmed, and has the number 0. Two entries are equal exactly where the
   bad definition
   equal
 
-`drop` takes the last line in force of a key, and what stood before it comes back. A key that only a line defines that is
-not in force has none.
+`drop` removes the last line in force of a key, and the one before it is in force again. A key without a line in force
+is not found.
 
   $ printf 'm !\na 2 m\n!locale en_GB\na 3 m\nb 4 m\n!endlocale\na 2 m\na 5 m\n' > v.units
   $ test_decks decks <<'END'
@@ -596,8 +601,8 @@ not in force has none.
   no such key
   1 m ! | 3 !locale en_GB | 6 !endlocale
 
-`append` of what is there already changes no key, and of other lines those that they define. Its notices take the place of
-the earlier ones, and a block of the deck does not go on in it.
+`append` of lines that the deck has changes no key, and of other lines the keys that they define. Its notices replace
+the earlier ones, and a block of the deck does not continue in it.
 
   $ printf 'a 7 m\n!locale en_GB\nb 4 m\n!nosuch\n' > w.units
   $ test_decks decks <<'END'
@@ -623,7 +628,7 @@ the earlier ones, and a block of the deck does not go on in it.
   none
   3 units, 0 prefixes, 0 functions, 0 lists, 23 lines, 0 notices
 
-A snapshot stays as it is whatever becomes of the deck.
+A snapshot does not change with the deck.
 
   $ test_decks decks <<'END'
   > compare
@@ -702,7 +707,7 @@ A snapshot stays as it is whatever becomes of the deck.
   equal
   2 m
 
-100,000 lines are the most. Blank lines and comments count nowhere; a refused edit changes nothing.
+A deck has at most 100,000 lines. Blank lines and comments do not count. A refused edit changes nothing.
 
   $ yes 'm !' | head -n 99999 > most.units
   $ (cat most.units; printf '\n# no line\n   \n!nosuch\n') > full.units
@@ -761,7 +766,7 @@ A snapshot stays as it is whatever becomes of the deck.
   changed: x
   2 units, 0 prefixes, 0 functions, 0 lists, 99999 lines, 0 notices
 
-So are 67,108,864 bytes of the texts of lines, the include lines too.
+The texts of a deck's lines, include lines too, have at most 67,108,864 bytes.
 
   $ message() { printf '!message '; head -c $1 /dev/zero | tr '\0' x; }
   $ message 16777207 > w; message 16777167 > r; message 16777168 > o; message 16777164 > l
@@ -787,7 +792,8 @@ So are 67,108,864 bytes of the texts of lines, the include lines too.
   deck full
   1 units, 0 prefixes, 0 functions, 0 lists, 9 lines, 0 notices
 
-Each prefix of the built-in definitions gives a deck: what its last line is, and how many blocks are open, is told in notices.
+Each prefix of the text of the built-in definitions gives a deck. Its notices report an incomplete last line and open
+blocks.
 
   $ test_decks decks > prefixes <<END
   > $(for i in $(seq 0 1057); do head -c $i $BUILTIN > p_$i; echo "text p_$i"; echo notices; echo count; echo lines; done)
@@ -807,8 +813,8 @@ Each prefix of the built-in definitions gives a deck: what its last line is, and
   $ md5sum < prefixes
   2d71187fd283c8a9e8a28c21d99fe13a  -
 
-Every splice of a small deck, with a few puts: what comes of it, its inverse, and that the deck is as it was then. One whose
-places are not there, or that leaves a block open or closes none, is refused.
+Every splice of a small deck, with a few lines to insert: its result, its inverse, and that this restores the deck. A
+splice is refused if it is out of range, leaves a block open, or ends one that is not open.
 
   $ cat > x.units <<'END'
   > a !
@@ -845,7 +851,7 @@ places are not there, or that leaves a block open or closes none, is refused.
   $ md5sum < spliced
   2e710e04e162de009268bdafb790d277  -
 
-The same to other settings and back.
+The same splices, which also switch to other settings. Their inverses switch back.
 
   $ (printf 'load x.units\nsnapshot\nlocale en_GB\nset V y\n'; splices) | test_decks decks > spliced
   $ sort spliced | uniq -c | grep -E 'equal|different'
@@ -853,7 +859,7 @@ The same to other settings and back.
   $ md5sum < spliced
   a77439fb7d24720f183638c4a92b673d  -
 
-What is no call, and what needs a deck.
+Lines that are no calls, and calls without a deck.
 
   $ test_decks decks <<'END'
   > 

@@ -1,6 +1,6 @@
-Definition lines, as `test_values entries` answers them: it reads a definition file, and writes for each definition and
-each list its number, and its key, what its entry says and the text of that, or why the line is refused. The
-keys, entries and faults are found by hand from the rules of the format.
+Definition lines, as `test_values entries` reads them. For each definition and each list of a file, it prints the number
+of the line, the key, the kind and the text of the entry, or why the line is refused. The keys, entries and faults are
+found by hand from the rules of the format.
 
 Each form: a unit, a prefix, a function with its options, an alias, a table and a list.
 
@@ -46,7 +46,7 @@ Each form: a unit, a prefix, a function with its options, an alias, a table and 
   19: !unitlist z | list of 1 | m
   19 lines, 0 refused
 
-Options stand in any order, and each part of a function is told where it stands.
+Options may be in any order. The parts that a function has are listed.
 
   $ test_values entries <<'END'
   > f(x) units=[m;] noerror domain=[0,1] x
@@ -66,9 +66,8 @@ Options stand in any order, and each part of a function is told where it stands.
   7: f() | function in out domain range inverse | (x) units=[m;m] domain=[1,2] range=[3,4] noerror x;f
   7 lines, 0 refused
 
-The first fault of each line: a name, a parameter or an alias target that is none before a form that fits none,
-that before points that are no table, and those before expressions. A blank at the end of a line is trimmed, and
-` m !` is `m !`: a line of a file has no blanks at its ends.
+The first fault of each line. A bad name, parameter or alias target comes before a bad form, this before a bad table,
+and this before a fault in an expression. Blanks at the ends of a line are dropped, so ` m !` is `m !`.
 
   $ test_values entries <<'END'
   > foo2 m
@@ -160,7 +159,7 @@ that before points that are no table, and those before expressions. A blank at t
   43: refused: numeral too long
   43 lines, 43 refused
 
-A place counts from 0, and parentheses are nested 64 deep at most.
+Places count from 0. Parentheses are at most 64 deep.
 
   $ { printf 'a '; printf '1%.0s' $(seq 20); printf ' m%.0s' $(seq 592); echo ' +'; } > places
   $ test_values entries < places
@@ -174,7 +173,7 @@ A place counts from 0, and parentheses are nested 64 deep at most.
   1: refused: nested too deep
   1 lines, 1 refused
 
-Which lines count: comments, blank lines and other directives do not, and a line that goes on is one line.
+Comments, blank lines and other directives are not counted. A continued line is one line.
 
   $ printf '' | test_values entries
   0 lines, 0 refused
@@ -219,7 +218,7 @@ A file of more than 16 MiB is not read.
   $ printf '#' >> long; test_values entries < long
   file too long
 
-A table has 1,000 points at most; what stands behind those is not looked at.
+A table has at most 1,000 points. If more follows, the table is refused without reading it.
 
   $ points() { printf 't[m]'; seq 0 $1 | sed 's/.*/ & 1|3,/' | tr -d '\n'; }
   $ points 999 | test_values entries | cut -c 1-42
@@ -251,8 +250,8 @@ Long lines.
   1: a | body | m m m m m m
   1 lines, 0 refused
 
-Two entries of one key are equal exactly where their texts are: the first two lines of each three are, the third is
-another.
+Two entries of one key are equal exactly if their texts are. Of each three lines, the first two are equal, and the third
+differs.
 
   $ test_values entries <<'END'
   > a 2 m

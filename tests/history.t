@@ -1,8 +1,8 @@
-Histories, by the calls of `test_tables history`: a first `load FILE` makes the table of a file's deck, `value EXPRESSION` is a
-query, and `lines` tells the lines of the deck, a `;` behind each. `define LINE`, `drop KEY`, `switch LOCALE` and `append FILE` are
-edits, which `undo` takes back and `redo` makes again. A value is printed exactly.
+Histories, as `test_tables history` answers calls. The first call, `load FILE`, makes a table of the deck of a file.
+`value EXPRESSION` prints an exact value, and `lines` prints the lines of the deck, each with a `;` after it.
+`define LINE`, `drop KEY`, `switch LOCALE` and `append FILE` are edits, which `undo` and `redo` undo and redo.
 
-An undo gives back what was before an edit, and a redo what that took.
+`undo` restores the state before an edit, and `redo` the state after it.
 
   $ cat > small.units <<'END'
   > m !
@@ -37,7 +37,7 @@ An undo gives back what was before an edit, and a redo what that took.
   nothing to undo
   m !;a 2 m;b 3 a;c 5 m;
 
-A refused edit is none, and a new one leaves nothing to redo.
+A refused edit cannot be undone, and after a new edit nothing can be redone.
 
   $ test_tables history <<'END'
   > load small.units
@@ -70,7 +70,7 @@ A refused edit is none, and a new one leaves nothing to redo.
   nothing to undo
   m !;a 2 m;b 3 a;c 5 m;
 
-A dropped line comes back at its place, under its number and its mark, and the line that it covered is covered again.
+A dropped line comes back at its place, with its number and its mark, and covers the earlier line again.
 
   $ cat > covered.units <<'END'
   > m !
@@ -119,7 +119,8 @@ A dropped line comes back at its place, under its number and its mark, and the l
   ok
   m !;a 2 m;a 3 m;b 5 a;
 
-A line that is defined again covers one before it, which an undo uncovers, in any depth; a line that says the same is an edit too.
+A new definition covers the earlier line, and an undo uncovers it, at any depth. A definition with the same text is an
+edit too.
 
   $ test_tables history <<'END'
   > load covered.units
@@ -166,7 +167,8 @@ A line that is defined again covers one before it, which an undo uncovers, in an
   22 m
   nothing to redo
 
-Other settings and whole files, one behind another. A file whose blocks are not closed is put with the lines that close them.
+Switches of the locale and appended files, one after another. The lines that close an open block of a file are appended
+too.
 
   $ cat > local.units <<'END'
   > m !

@@ -1,13 +1,13 @@
 Faults of definitions, each with its file, line and column.
 
-Sound definitions have none.
+Sound definitions have no faults.
 
   $ units_why --lint
   $ printf 'm !\nyard 0.9144 m\n' > sound.units
   $ units_why --lint -f sound.units
 
-Lines without effect come first, as the notices of `units --check`; then the keys in the order of files and lines. The
-column is that of the word or the byte at fault, or else of the name.
+Lines without effect come first, as in `units --check`; then the keys, in the order of files and lines. The column is
+that of the faulty word or byte, or else of the name.
 
   $ cat > faults.units <<'end'
   > m !
@@ -80,7 +80,7 @@ column is that of the word or the byte at fault, or else of the name.
   {"severity":"error","file":"faults.units","line":16,"column":1,"end":5,"key":"huge","message":"overflow"}
   [1]
 
-Definitions that a later one replaces are warnings. A line for another locale is none.
+A definition that a later one replaces gives a warning. A line for another locale gives none.
 
   $ cat > twice.units <<'end'
   > m !
@@ -98,7 +98,7 @@ Definitions that a later one replaces are warnings. A line for another locale is
   twice.units:4:2: ell: replaced by the definition at twice.units:6
   [1]
 
-Files that are included, in the order in which they are read.
+Included files, in the order in which they are read.
 
   $ mkdir -p sub
   $ printf 'm !\n!include sub/one.units\nlast 2 gone\n!include absent.units\n' > top.units
@@ -112,8 +112,8 @@ Files that are included, in the order in which they are read.
   sub/two.units:1:9: two: unknown unit: nowhere in two
   [1]
 
-The word at fault may be on a line that continues the definition, or have a numeral before it or a power after it. A
-fault of another definition, and a word that is not there as it is named, are at the name.
+The faulty word may be on a continuation line, after a numeral or before a power. The column is that of the name if the
+fault is one of another definition, or if the text has the word in another form.
 
   $ cat > words.units <<'end'
   > m !
@@ -133,8 +133,8 @@ fault of another definition, and a word that is not there as it is named, are at
   words.units:8:1: ring: cycle: ring -> ring
   [1]
 
-Comments name the units to which definitions have to conform: on their line, or on a line of its own for those after it
-up to a blank line.
+A comment with `#:` names the unit to which definitions must conform: that of its line, or, on a line of its own, those
+after it up to a blank line.
 
   $ cat > noted.units <<'end'
   > m !
@@ -196,7 +196,7 @@ Both linters read these comments in the same way.
   noted.units:28: broken has no value: unknown unit: lost in broken
   [1]
 
-A comment in an included file holds there alone. A line that is replaced, or that is for another locale, is not checked.
+Such a comment holds only in its own file, not in those that it includes. A line for another locale is not checked.
 
   $ printf '#: s\n!include inner.units\nlate 2 m\n' > outer.units
   $ printf 'm !\ns !\nearly 2 m\n!locale en_GB\nlocal 2 m #: s\n!endlocale\n' > inner.units
@@ -208,7 +208,7 @@ A comment in an included file holds there alone. A line that is replaced, or tha
   inner.units:5:1: local: 2 m does not conform to s
   [1]
 
-Words that are read as a plural or with a prefix, and could be read with other dimensions.
+Words that are read as a plural or with a prefix, and have another reading with other dimensions.
 
   $ cat > two.units <<'end'
   > m !
@@ -226,7 +226,7 @@ Words that are read as a plural or with a prefix, and could be read with other d
   two.units:8:9: plain: das is read as the plural of da, not as d as
   [1]
 
-With `--captures` also the units that hide a reading of another value. A prefix alone is none.
+`--captures` also reports units that hide a reading with another value. A prefix alone is no such reading.
 
   $ cat > hidden.units <<'end'
   > m !
@@ -248,7 +248,7 @@ With `--captures` also the units that hide a reading of another value. A prefix 
   $ units_why --lint --captures --json -f hidden.units | head -n 1
   {"severity":"information","file":"hidden.units","line":7,"column":1,"end":4,"key":"min","message":"hides m in = 2.54e-05 m"}
 
-With `--unused` also what no other definition uses, unless it is a unit of measure or a list.
+`--unused` also reports what no other definition uses, unless it is a unit of measure or a list.
 
   $ cat > unused.units <<'end'
   > m !
@@ -277,7 +277,7 @@ With `--unused` also what no other definition uses, unless it is a unit of measu
   builtin:19:1: G-: no other definition uses it
   builtin:20:1: M-: no other definition uses it
 
-The standard library has none.
+The standard library has no findings.
 
   $ units_why --lint -f "$LIBRARY"
   $ units_why --lint -f "$LIBRARY" -l en_GB
@@ -289,7 +289,7 @@ A file that cannot be read twice has findings without places.
   yd: unknown unit: q in yd
   [1]
 
-Files and words that are refused.
+Refused arguments and files.
 
   $ units_why --lint -f absent.units
   units-why: no file: absent.units

@@ -1,10 +1,10 @@
-What words lead to in tables of a few keys: what each is found as, and the keys that are looked at on
-the way, absent ones too. A prefix is written with a `-`, a function with `()`. Found by hand.
+The definitions that a word finds in tables of a few keys, and the keys that are looked up on the way, absent ones too.
+A prefix is written with a `-`, a function with `()`. The answers are found by hand.
 
   $ found() { while IFS= read -r call; do printf '%s => ' "$call"; echo "find $call" | test_values texts; done; }
 
-A unit before a function alone, a function before a unit in front of an operand, and a function only
-behind a `~`.
+A word alone is first looked up as a unit, then as a function; a word before an operand first as a function, then as a
+unit; and a word after a `~` only as a function.
 
   $ found <<'END'
   > plain f f;f()
@@ -23,7 +23,7 @@ behind a `~`.
   plain z !unitlist z => found; looked at z z() z-
   plain q => found; looked at q q() q-
 
-A word whole, then behind a prefix, the longest first, with the rest of the word as a unit.
+A word is tried whole, then as a prefix, the longest first, with the rest of the word as a unit.
 
   $ found <<'END'
   > plain km km;k-;m
@@ -44,8 +44,8 @@ A word whole, then behind a prefix, the longest first, with the rest of the word
   plain dab da-;d-;ab => found d- ab; looked at dab dab() dab- da- b d- ab
   plain dab da-;d-;ab;b => found da- b; looked at dab dab() dab- da- b
 
-The plural of a unit: `s`, `es` and `y` in the place of `ies`, of words that are long enough, also behind
-a prefix.
+The plural of a unit ends in `s` or `es`, or in `ies` instead of `y`, if the word is long enough. It may follow a
+prefix.
 
   $ found <<'END'
   > plain berries berry
@@ -74,7 +74,7 @@ a prefix.
   plain kms k-;m => found k- m; looked at kms kms() km km- k- m
   plain kms k-;ms;m => found k- m; looked at kms kms() km km- k- m
 
-Of a long word each prefix is looked at once.
+Each prefix of a long word is looked up once.
 
   $ { printf 'find plain '; yes a | head -n 255 | tr -d '\n'; echo ' m'; } | test_values texts | wc -w
   260

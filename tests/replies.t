@@ -1,7 +1,7 @@
-Replies, by the calls of the crate reply. The first line, `load FILE`, loads a deck. `convert FROM to TO` and
-`define FROM` answer the bytes of a reply, `value FROM` what FROM is worth, exact, and `options WORD..` sets the
-options of what comes after: `exact`, `strict`, `one-line`, `compact`, `quiet`, `round`, `verbose` and a number of
-digits. Behind a reply that is refused, and behind a fault in the place of a value, stands a line that says so.
+Replies, as `test_tables answers` gives them. The first line, `load FILE`, loads a deck. `convert FROM to TO` and
+`define FROM` print a reply, and `value FROM` the exact value of FROM. `options WORD..` sets the options for the
+following calls: `exact`, `strict`, `one-line`, `compact`, `quiet`, `round`, `verbose` and a number of digits. The line
+`refused` follows a refused reply, and a fault in place of a value.
 
 A conversion to a unit, in each layout.
 
@@ -63,7 +63,7 @@ A conversion to a unit, in each layout.
   32.808399
   0.03048
 
-Digits, and numbers that are exact whatever the digits are.
+The number of digits, from 1 to 36, and exact numbers, which it does not affect.
 
   $ test_tables answers <<END
   > load $BUILTIN
@@ -109,7 +109,7 @@ Digits, and numbers that are exact whatever the digits are.
   12500|381
   381|12500
 
-What is 0 goes in no whole number of times, and nothing goes into a unit of 0.
+The second number of a conversion of 0 is `inf`. A conversion to 0 is a division by zero.
 
   $ test_tables answers <<END
   > load $BUILTIN
@@ -150,7 +150,7 @@ What is 0 goes in no whole number of times, and nothing goes into a unit of 0.
   overflow
   refused
 
-A reciprocal conversion, in each layout. The line that says so does not stand before a fault.
+Reciprocal conversions, in each layout. A fault is reported without the line `reciprocal conversion`.
 
   $ test_tables answers <<END
   > load $BUILTIN
@@ -210,7 +210,7 @@ A reciprocal conversion, in each layout. The line that says so does not stand be
   0.5
   2
 
-Numbers conform to numbers. With `strict` there is no reciprocal conversion.
+Units that do not conform. Numbers conform to numbers. With `strict` there is no reciprocal conversion.
 
   $ test_tables answers <<END
   > load $BUILTIN
@@ -272,8 +272,8 @@ Numbers conform to numbers. With `strict` there is no reciprocal conversion.
   \t1 m (esc)
   refused
 
-A target that is the name of a function, an alias or a table, in each layout. `to` a name with anything behind it is
-to an expression.
+A TO that is the name of a function, an alias or a table, in each layout. A name with anything after it is an
+expression.
 
   $ test_tables answers <<END
   > load $BUILTIN
@@ -330,8 +330,7 @@ to an expression.
   ok
   65|9
 
-The function is taken where a list or a unit has its name too, and the list where a unit has it. The argument of a
-function may have a unit.
+As TO, a name means a function before a list, and a list before a unit. The argument of a function may have a unit.
 
   $ cat > names.units <<'END'
   > m !
@@ -389,7 +388,7 @@ function may have a unit.
   ok
   3 m
 
-A target that is a list, by its name or with semicolons, in each layout.
+A TO that is a list, by its name or with semicolons, in each layout.
 
   $ test_tables answers <<END
   > load $BUILTIN
@@ -457,9 +456,9 @@ A target that is a list, by its name or with semicolons, in each layout.
   \t4 ft + 904|127 in (esc)
   \t0 1 + 0 1 + 1|2 1 (esc)
 
-The faults of a list: each part is read before any has a value, the parts have their names and values in turn, then
-the first that does not conform, then the first that is not above 0. A word in a part stands in the query, also where
-the list has a definition.
+The faults of a list. The syntax of each part comes first, then the names and the value of each part in turn, then the
+first part that does not conform, then the first one that is not above 0. An unknown unit in a named list is reported
+without the name of the list.
 
   $ cat > lists.units <<'END'
   > m !
@@ -552,8 +551,8 @@ the list has a definition.
   refused
   \t1.25 m = 1 m + 2.5 1|10   m (esc)
 
-Definitions, in each layout. The text of the definition stands before the value where the text is the name of a unit
-that an expression defines.
+Definitions, in each layout. If FROM is the name of a unit that an expression defines, the text of that definition
+precedes the value, except in a compact reply.
 
   $ cat > texts.units <<'END'
   > m !
@@ -666,7 +665,7 @@ that an expression defines.
   overflow
   refused
 
-The text of each fault, which is the whole reply in every layout.
+The text of each fault is the whole reply, in every layout.
 
   $ cat > faults.units <<END
   > m !
@@ -792,8 +791,8 @@ The text of each fault, which is the whole reply in every layout.
   calls too deep: f_17
   refused
 
-The faults of FROM come before those of TO, those of a text before those of its names, and these before those of its
-value. The quantities of a fault are written as the options ask.
+Faults of FROM come before those of TO. A syntax error comes before a fault of a name, and this before one of the value.
+The quantities of a fault are written as the options say.
 
   $ test_tables answers <<END
   > load faults.units
@@ -857,7 +856,7 @@ value. The quantities of a fault are written as the options ask.
   sum of unlike units: 1|3 m and 3 s
   refused
 
-What texts are worth, in whatever layout.
+`value` is exact whatever the options are. Only the quantities of a fault depend on them.
 
   $ test_tables answers <<END
   > load $BUILTIN
@@ -886,7 +885,7 @@ What texts are worth, in whatever layout.
   sum of unlike units: 0.33 m and 1 s
   refused
 
-Lines that are no call, and no deck.
+Lines that are no calls, and calls without a deck.
 
   $ test_tables answers <<END
   > load $BUILTIN

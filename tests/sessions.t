@@ -1,9 +1,10 @@
-Sessions: what each line is answered, edits of the definitions, and what is written on which stream.
+Sessions: the answer to each line, edits of the definitions, and the stream of each output. `apart` marks the lines of
+standard error by `err: `.
 
   $ file() { name=$1; shift; printf '%s\n' "$@" > "$name"; }
   $ apart() { "$@" 2> err; status=$?; sed 's/^/err: /' err; return $status; }
 
-The lines of a session are the words behind `--`, and the options stand before it.
+`session OPTIONS -- LINES` runs a session. The options precede `--`, and each word after it is a line.
 
   $ session() {
   >   options=
@@ -12,7 +13,7 @@ The lines of a session are the words behind `--`, and the options stand before i
   >   printf '%s\n' "$@" | apart units $options
   > }
 
-A name that is defined anew, and the old definition again.
+`ms` is a prefix with a unit until it is defined, and again after that definition is dropped.
 
   $ session -q -- '1 s' ms ':define ms 7 s' '1 s' ms ':drop ms' '1 s' ms
   \t* 1000 (esc)
@@ -22,7 +23,7 @@ A name that is defined anew, and the old definition again.
   \t* 1000 (esc)
   \t/ 0.001 (esc)
 
-A cycle, which begins with the name in which it is met first, and which a definition breaks.
+A cycle is reported from the name in it that is met first. A definition breaks it.
 
   $ file cycle.units 'm !' 'a b' 'b a' 'c 2 a'
   $ session -q -f cycle.units -- c b ':define b m' c ''
@@ -30,7 +31,7 @@ A cycle, which begins with the name in which it is met first, and which a defini
   cycle: b -> a -> b
   \tDefinition: 2 a = 2 m (esc)
 
-What is kept and forgotten, by its counts.
+The counts of `:stats` show which values are kept and which are forgotten.
 
   $ file chain.units 'm !' 'a 2 m' 'b 3 a' 'c 5 m'
   $ session -q -f chain.units -- b m c m ':define a 7 m' :stats b m :stats
@@ -71,8 +72,8 @@ What is kept and forgotten, by its counts.
   \t/ 1.4285714 (esc)
   settled 3 of 4, reductions 3
 
-A prefix that led nowhere, behind the one that did, and the name that would have followed it: a name that looked at
-them is forgotten, and no other.
+Edits of `da-`, which is tried before `d-` without success, and of `b`, the unit that was missing after `da-`: only the
+names that looked at them are forgotten.
 
   $ file x.units 'm !' 'da- 10' 'd- 1|10' 'ab 7 m' 'x dab' 'y ab'
   $ session -q -f x.units -- x m y m :stats ':define da- 20' :stats x m :stats \
@@ -95,7 +96,7 @@ them is forgotten, and no other.
   \t/ 1.4285714 (esc)
   settled 6 of 6, reductions 10
 
-A cycle that is made and broken.
+One edit makes a cycle, and another one breaks it.
 
   $ file pq.units 'm !' 'p q' 'q 4 m'
   $ session -q -f pq.units -- p m :stats ':define q p' :stats p q :stats ':drop q' p m :stats
@@ -125,8 +126,8 @@ Locales and variables.
   \t* 3 (esc)
   \t/ 0.33333333 (esc)
 
-A variable that opens a block, in which one name is defined anew and another for the first time, and closes it again.
-A value for which no block asks changes nothing.
+A variable opens a block, in which one name is redefined and another one is defined for the first time, and closes it
+again. A value that no block asks for changes nothing.
 
   $ file block.units 'm !' 'a 2 m' '!var V x' 'a 3 m' 'n 5 m' '!endvar' 'b a' 'c 7 m' 'e n'
   $ session -q -f block.units -- e b m c m :stats ':set V x' :stats b m e m :stats ':set V y' :stats b m :stats \
@@ -168,7 +169,7 @@ The banner, the messages and the prompts.
   \t/ 0.5 (esc)
   You have:  (no-eol)
 
-Messages in force, one without text and one with blanks, are told at the start alone, and with `-q` not at all.
+Messages in force, one without text and one with blanks, are printed only at the start, and not at all with `-q`.
 
   $ file messages.units '!locale en_GB' '!message cheerio' '!endlocale' '!message' '!message  a  b ' 'm !'
   $ printf ':load messages.units\n:locale en_GB\n' | apart units -f messages.units
@@ -184,7 +185,7 @@ Messages in force, one without text and one with blanks, are told at the start a
   You have:  (no-eol)
   $ units -q -l en_GB -f messages.units < /dev/null
 
-A pending FROM is valued anew for the reply.
+A pending FROM is evaluated again for the reply.
 
   $ session -q -- '1 ft' ':define ft 2 m' m
   \t* 2 (esc)
@@ -196,7 +197,8 @@ A pending FROM is valued anew for the reply.
   no such definition: ft()
   unknown unit: ms
 
-It stays behind each command, taken or not, behind a line that is too long, and behind `?`, which tells its fault.
+It stays pending after each command, accepted or refused, after a line that is too long, and after `?`, even if that
+reports a fault of FROM.
 
   $ session -q -- '1 ft' 'search no such name' ':define foo2 m' ':define w 1 m' ':drop zz' ':drop w' ':set V x' \
   >   ':set V' ':locale en_US' ':load gone.units' ':load one.units' :stats :nosuch \
@@ -227,7 +229,7 @@ It stays behind each command, taken or not, behind a line that is too long, and 
   You want: unknown unit: in in ft
   You have: You want:  (no-eol)
 
-A FROM with a fault is answered at once, and none is pending.
+A faulty FROM is reported at once, and is not pending.
 
   $ session -q -- '2 +' nosuch 'sin(1)' '2 m + 3 s' '' m s
   syntax error at 3
@@ -238,7 +240,7 @@ A FROM with a fault is answered at once, and none is pending.
   \t1 m (esc)
   \t1 s (esc)
 
-Searches, and the units that conform.
+A search, and the units that conform to FROM.
 
   $ file mil.units 'm !' 's !' 'min 60 s' 'mil 5 m' 'milli- 1|1000'
   $ session -q -f mil.units -- 'search mil' '2 s' '?' ''
@@ -248,7 +250,7 @@ Searches, and the units that conform.
   \ts\t! (esc)
   \tDefinition: 2 s (esc)
 
-Notices on standard error, refusals on standard output.
+Notices are on standard error, refusals on standard output.
 
   $ file f.units 'm !' 'foo2 m' 'ok m'
   $ session -q -f f.units -- ':define foo2 m' ok m
@@ -263,7 +265,7 @@ Notices on standard error, refusals on standard output.
   bad command: :drop
   no file: gone.units
 
-Commands without what they need, with more than they take, and words that are none.
+Commands with too few or too many words, and words that are no commands.
 
   $ session -q -- :define :drop ':drop 1' ':drop # ft' :set ':set V' :locale :load ':stats 1' ':stats # all' \
   >   : ':nosuch x' ':definex y' ': define y m' search 'search # x' searching 'quit now' 'exits'
@@ -287,7 +289,7 @@ Commands without what they need, with more than they take, and words that are no
   unknown unit: quit
   unknown unit: exits
 
-A definition of each kind is dropped by its own key; a locale that no block names.
+Each kind of definition is dropped by its own kind of key. No block names the locale `nowhere`.
 
   $ session -q -- ':drop hms' ':drop !unitlist  hms' ':drop !unitlist hms' '1.5 hr' hms \
   >   ':drop tempcelsius()' '300 K' tempcelsius ':drop milli-' '1 ms' ':drop m-' '1 ms' \
@@ -306,7 +308,7 @@ A definition of each kind is dropped by its own key; a locale that no block name
   \t* 2 (esc)
   \t/ 0.5 (esc)
 
-Why a definition is refused.
+The reasons to refuse a definition.
 
   $ nested() { printf "%$1s" | tr ' ' '('; printf 1; printf "%$1s" | tr ' ' ')'; }
   $ session -q -- ':define 1a m' ':define a' ':define a 2 *' ':define a 1e10000' ":define a $(nested 65)" \
@@ -327,7 +329,7 @@ Why a definition is refused.
   \t* 2 (esc)
   \t/ 0.5 (esc)
 
-A file that is loaded with notices, and one that is too long. A file that cannot be read ends the session.
+A file with notices is loaded, and one that is too long is refused. A file that cannot be read ends the session.
 
   $ truncate --size 16777217 past.units
   $ file more.units 'm !' '!endvar' '!include gone.units' 'foo2 m' 'more 7 m' '!utf8'
@@ -362,9 +364,9 @@ Notices come first: those of the definition file before the banner, those of a l
   \t* 1 (esc)
   \t/ 1 (esc)
 
-The end: `quit`, `exit`, or that of the input, whether or not a line feed stands before it. Carriage returns at the
-ends of lines, comments and outer blanks are dropped; another carriage return and a NUL byte are no part of an
-expression. Input that comes byte by byte is answered alike.
+A session ends at `quit`, at `exit` or at the end of the input, with or without a last line feed. A carriage return at
+the end of a line, comments and outer blanks are dropped. Another carriage return and a NUL byte cannot be part of an
+expression. Input that comes byte by byte has the same answers.
 
   $ session -q -- '1 ft' in ' quit # now' '1 ft' in
   \t* 12 (esc)
@@ -390,7 +392,7 @@ expression. Input that comes byte by byte is answered alike.
   syntax error at 1
   syntax error at 0
 
-Undo and redo: of a definition, and with nothing left.
+Undo and redo of a definition, also with nothing left to undo or redo.
 
   $ session -q -f chain.units -- ':define a 7 m' b m :undo b m :redo b m :redo
   \t* 21 (esc)
@@ -409,7 +411,7 @@ Undo and redo: of a definition, and with nothing left.
   no such definition: zz
   nothing to undo
 
-An undo of each kind of edit, a load with an open block among them; what was undone is lost by a new edit.
+Each kind of edit is undone, including a load with an open block. A new edit discards what could be redone.
 
   $ file unclosed.units '!locale en_US' 'g 3 m'
   $ session -q -f chain.units -- ':load unclosed.units' ':drop a' ':locale en_GB' ':set x y' ':define a 9 m' \
@@ -439,8 +441,8 @@ An undo of each kind of edit, a load with an open block among them; what was und
   \t* 1.1365225 (esc)
   \t/ 0.87987699 (esc)
 
-A variable that is set and set anew is undone to its first value and to none, and made again, with others set between;
-and so is a locale to and fro.
+If a variable is set twice, undo restores its first value and then none, and redo sets it again, with another variable
+set in between. The same is true of a locale that is switched to and fro.
 
   $ file sized.units 'm !' 'step 5 m' '!var SIZE big' 'step 10 m' '!endvar' '!var SIZE small' 'step 2 m' '!endvar'
   $ session -q -f sized.units -- ':set SIZE big' ':set OTHER x' ':set SIZE small' step m :undo step m :undo :undo step m \
@@ -473,8 +475,8 @@ and so is a locale to and fro.
   \t/ 0.2 (esc)
   nothing to redo
 
-A line that was dropped comes back where it stood. A load is undone and made again with the blocks that it closed, and
-with what was defined behind it.
+A dropped line comes back at its old place. A load is undone and redone with the lines that close its blocks, and with a
+definition made after it.
 
   $ file twice.units 'm !' 'a 2 m' 'b a'
   $ session -q -f twice.units -- ':drop a' :undo ':save order.units' && cmp twice.units order.units
@@ -488,8 +490,8 @@ with what was defined behind it.
   \t/ 0.16666667 (esc)
   err: unclosed.units:1: unclosed block
 
-An edit that changes no key is one to undo, and forgets nothing. One that is refused is none, and loses nothing that was
-undone.
+An edit that changes no key can be undone, and forgets no value. A refused edit cannot be undone, and what was undone
+can still be redone.
 
   $ session -q -f chain.units -- b m ':define a 2 m' ':set x y' ':define a 7 m' :undo :undo :stats :undo :undo :stats
   \t* 6 (esc)
@@ -510,7 +512,7 @@ undone.
   \t* 6 (esc)
   \t/ 0.16666667 (esc)
 
-A pending FROM stays behind an undo, a redo and a save, and is valued anew.
+A FROM stays pending after an undo, a redo and a save, and is evaluated again.
 
   $ session -q -f chain.units -- '1 a' ':define a 7 m' :undo m
   \t* 2 (esc)
@@ -527,7 +529,7 @@ A pending FROM stays behind an undo, a redo and a save, and is valued anew.
   nothing to redo
   bad command: :save
 
-Saved decks: what is in force, and a text that ends in a backslash; a load sees what was saved.
+Saved decks: the definitions in force, and a text that ends in a backslash. A load reads what was saved.
 
   $ file local.units 'm !' '!locale en_US' 'g 3 m' '!endlocale'
   $ session -q -f local.units -- ':define h 2 g' ':save s.units'
@@ -546,7 +548,7 @@ Saved decks: what is in force, and a text that ends in a backslash; a load sees 
   \t* 9 (esc)
   \t/ 0.11111111 (esc)
 
-A save in the middle of a locale's block, which the file did not close, with that locale in force and without it.
+A save within the block of a locale that the file did not close, with that locale in force and without it.
 
   $ session -q -f twice.units -- ':load unclosed.units' ':define h 2 g' ':save us.units' ':locale en_GB' ':save gb.units'
   err: unclosed.units:1: unclosed block
@@ -562,7 +564,7 @@ A save in the middle of a locale's block, which the file did not close, with tha
   b a
   h 2 g
 
-All that is built in, saved and loaded again: the same definitions, with no notice, and the same text of them.
+The built-in definitions are saved and loaded again: there is no notice, and the counts and the saved text are the same.
 
   $ session -q -- ':save all.units'
   $ session -q -f all.units -- ':save again.units' && cmp all.units again.units
@@ -570,7 +572,7 @@ All that is built in, saved and loaded again: the same definitions, with no noti
   43 units, 18 prefixes, 4 nonlinear units
   You have:  (no-eol)
 
-A text as long as a file may be, and one that is longer by a byte.
+A saved text of the greatest length of a file, and one that is longer by a byte.
 
   $ longest() { printf 'm !\nx %*sm%b' "$1" '' "$2"; }
   $ longest 16777208 '\n' > longest.units
@@ -588,8 +590,8 @@ A text as long as a file may be, and one that is longer by a byte.
   cat: too.units: No such file or directory
   [1]
 
-Watched conversions: each reply as it is, then each that an edit changes, behind its number. An edit that changes none
-tells nothing.
+Watched conversions: each reply, after its number, at first and whenever an edit changes it. An edit that changes none
+prints nothing.
 
   $ session -q -f chain.units -- ':watch b ; m' ':watch c ; m' ':define a 7 m' ':define a 7 m'
   watch 1
@@ -616,7 +618,7 @@ tells nothing.
   watch 2
   unknown unit: m in c
 
-Each kind of edit tells what it has changed, and one that is refused tells only that.
+Each kind of edit reports the replies that it changes. A refused edit reports only its refusal.
 
   $ session -q -f walk.units -- ':watch walk ; m' ':set UNITS_SIZE small' :undo :redo ':set UNITS_SIZE tiny' ':drop walk' \
   >   ':drop walk' :undo
@@ -660,7 +662,7 @@ Each kind of edit tells what it has changed, and one that is refused tells only 
   \t/ 0.16666667 (esc)
   err: unclosed.units:1: unclosed block
 
-What is watched is asked for again behind each edit, and what that settles is counted; a pending FROM stays.
+Watched conversions are evaluated again after each edit, and `:stats` counts this. A pending FROM stays pending.
 
   $ session -q -f chain.units -- ':watch b ; m' :stats '1 c' ':define a 7 m' :unwatch ':define a 8 m' m :stats
   watch 1
@@ -674,7 +676,8 @@ What is watched is asked for again behind each edit, and what that settles is co
   \t/ 0.2 (esc)
   settled 2 of 4, reductions 6
 
-The sides of a watch stand before and behind its first semicolon, and neither may be blank. There are at most 1,000.
+The first semicolon separates FROM from TO. Neither may be blank, and TO may not be `?`. There are at most 1,000
+watches.
 
   $ session -q -f chain.units -- :watch ':watch b' ':watch ; m' ':watch b ;' ':watch b ; ?' ':watch b ; # m' ':unwatch b' \
   >   ':watch b;c;m # sum'
@@ -726,7 +729,7 @@ A chain of 20,000 names, with an edit near its end.
   \t/ 0.5 (esc)
   settled 20001 of 20001, reductions 40001
 
-A ring of as many, which an edit breaks and another closes again.
+A ring of as many names, which one edit breaks and another one closes again.
 
   $ sed 's/^u_0 !$/u_0 u_20000/' long.units > ring.units
   $ session -q -f ring.units -- u_20000 :stats ':define u_0 !' u_20000 u_0 :stats ':drop u_0' :stats u_0 > ring
@@ -742,7 +745,7 @@ A ring of as many, which an edit breaks and another closes again.
   20001
   20001
 
-A chain of 60,000 names, of which the last is asked for after each of 30,000 edits of a name beside it.
+A chain of 60,000 names. The last one is converted after each of 30,000 edits of a name outside the chain.
 
   $ { echo 'u_0 !'; seq 60000 | awk '{ print "u_" $1, "u_" $1 - 1 }'; } > longer.units
   $ rounds() { seq 30000 | sed 's/.*/:define w & u_0\nu_60000\nu_0/'; echo :stats; }
@@ -751,7 +754,7 @@ A chain of 60,000 names, of which the last is asked for after each of 30,000 edi
     30000 \t/ 1 (esc)
         1 settled 60001 of 60002, reductions 60001
 
-A full deck, a line that is too long, a table that is too long.
+A full deck, a line that is too long, and a table that is too long.
 
   $ yes 'm !' | head -n 100000 > full.units
   $ letters=$(printf '%65537s' | tr ' ' x)
@@ -767,8 +770,9 @@ A full deck, a line that is too long, a table that is too long.
   deck full
   settled 0 of 1, reductions 0
 
-Lines of 65,536 bytes, which are as long as a line may be, and longer ones, behind so many blank lines that they begin
-and end at each place where the input is cut into blocks. Comments, blanks and carriage returns count too.
+Lines of 65,536 bytes, the most that are allowed, and longer ones. Because of the blank lines before them, they begin
+and end before, at and after the bounds of the blocks in which input is read. Comments, blanks and carriage returns
+count too.
 
   $ bytes() { head -c $1 /dev/zero | tr '\0' "$2"; }
   $ for before in 0 1 2 65534 65535 65536 65537 131071; do
@@ -786,8 +790,8 @@ and end at each place where the input is cut into blocks. Comments, blanks and c
   \t/ 0.083333333 (esc)
   line too long
 
-Replies that are longer together than what is held unwritten, with short ones between and behind them in the same block,
-and a last line that does not end.
+Replies that together exceed the limit of unwritten output, with short ones between and after them in the same block of
+input, and a last line without a line feed.
 
   $ { echo 'm !'; for i in $(seq 4000); do echo "u_$i $i m"; done; } > long.units
   $ session -q -f long.units -- 'search u_' > one
@@ -799,7 +803,7 @@ and a last line that does not end.
   $ session -q -f long.units -- 'search u_' 'search u_' quit 'search u_' > said
   $ cat one one | cmp - said
 
-The trial.
+Trials.
 
   $ units --trial 3
   definitions 4, edits 3, reply bytes 43, settled 3 of 4, reductions 4

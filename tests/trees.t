@@ -1,13 +1,13 @@
-Expressions, and the tree or the fault of each, found by hand. `test_values texts` reads a call a line; these
-functions write each text before its answer. A tree has its kind before its parts, words stand in
-brackets, `[]` is the argument, and a numeral is its digits with the power of ten behind them.
+Expressions, and the tree or the fault of each, found by hand. `test_values texts` reads one call a line; these
+functions write each text before its answer. A tree has its kind before its parts, words are in brackets, `[]` is the
+argument, and a numeral is its digits and a power of ten.
 
   $ answers() { while IFS= read -r text; do printf '%s => ' "$text"; printf '%s\n' "$1 $text" | test_values texts; done; }
   $ trees() { answers plain; }
   $ bound() { answers "with $1"; }
   $ naming() { answers name; }
 
-What is no word, no numeral and no mark.
+Empty texts, and texts with a part that is no word, numeral or mark.
 
   $ trees <<'END'
   > 
@@ -42,7 +42,7 @@ What is no word, no numeral and no mark.
   $ printf 'plain a\001b\n' | test_values texts
   syntax error at 1
 
-What may not stand where it stands, and texts that may not end.
+Tokens in wrong places, and texts that end too early.
 
   $ trees <<'END'
   > 2 +
@@ -79,7 +79,7 @@ What may not stand where it stands, and texts that may not end.
   ~m2(3) => syntax error at 1
   ~per(3) => syntax error at 1
 
-A bar stands between two numerals only.
+A bar is allowed only between two numerals.
 
   $ trees <<'END'
   > 1|2 m
@@ -98,7 +98,7 @@ A bar stands between two numerals only.
   m2|3 => syntax error at 2
   (1)|2 => syntax error at 3
 
-The first fault is told, and a long numeral only where a numeral may stand.
+The first fault is reported. A numeral is reported as too long only if a numeral is allowed there.
 
   $ trees <<'END'
   > 1e10000
@@ -115,8 +115,8 @@ The first fault is told, and a long numeral only where a numeral may stand.
   $ printf 'plain \t1e39 \n' | test_values texts
   1e39
 
-Numerals and words: a point behind a blank begins a numeral, a head has its parenthesis directly
-behind it, and a digit at the end of a name is a power but behind an underscore.
+Numerals and words: a point after a blank begins a numeral, the parenthesis of a call directly follows the name, and a
+digit from 2 to 9 at the end of a name is a power, unless an underscore precedes the digits.
 
   $ trees <<'END'
   > 1 .5
@@ -192,7 +192,7 @@ Roots and inverses.
   cuberoot (8) => (root 3 8)
   ~f(1 + 2) => (inverse [f] (sum + 1 + 2))
 
-With a binder `x`.
+`x` is the argument.
 
   $ bound x <<'END'
   > x x2 y
@@ -203,8 +203,8 @@ With a binder `x`.
   x(2) + y(2) => (sum + (group (side [] 2)) + (call [y] 2))
   ~x(2) => (inverse [x] 2)
 
-No two trees have one text: a bar is not its quotient, and numerals past the largest fraction are
-told apart.
+Different trees are written differently: a bar is not a quotient, and numerals beyond the largest fraction are
+distinguished.
 
   $ trees <<'END'
   > 1|2
@@ -229,7 +229,7 @@ told apart.
   (2 3) => (group (side 2 3))
   2 (3) => (side 2 (group 3))
 
-A name has at most 255 bytes, and one more as a word with a power.
+A name has at most 255 bytes, and a word with a power has at most 256.
 
   $ repeated() { yes -- "$2" | head -n "$1" | tr -d '\n'; }
   $ verdict() { printf 'parse %s\n' "$1" | test_values texts; }
@@ -242,8 +242,7 @@ A name has at most 255 bytes, and one more as a word with a power.
   $ verdict "$(repeated 256 a)2"
   syntax error at 0
 
-A token is at most 64 deep: parentheses, signs and powers go deeper, a power digit and an operator do
-not.
+A token is at most 64 deep. Parentheses, signs and powers add to the depth; a power digit and an operator do not.
 
   $ verdict "$(repeated 64 '(')1"
   syntax error at 65
@@ -266,7 +265,7 @@ not.
   $ verdict "$(repeated 100 'f(1)+')1"
   tree
 
-The words of a tree from left to right, each with how it stands, and the tree of a copy.
+The words of a tree from left to right, each after its use as a call or an inverse, and the tree of a copy.
 
   $ test_values texts <<'END'
   > words a + b(c2 / ~d(2 - 1)) sqrt(-e) ^ 2 | 3 (f 3) g * 4
@@ -283,7 +282,7 @@ The words of a tree from left to right, each with how it stands, and the tree of
   syntax error at 3
   bad call
 
-Names, and names that are refused. A byte above 127 may stand in a name.
+Names, words that are no names, and refused names. A byte above 127 may be part of a name.
 
   $ naming <<'END'
   > m
@@ -333,7 +332,7 @@ Names, and names that are refused. A byte above 127 may stand in a name.
   $ printf 'name m\310\n' | test_values texts
   name
 
-A million members are parsed, copied, listed and let go without a call for each.
+A million operands are parsed, copied, listed and freed without a nested call for each.
 
   $ for pattern in 'm ' m+ 'm*' m-; do
   >     { printf 'words '; repeated 1000000 "$pattern"; echo m; } | test_values texts | wc -w

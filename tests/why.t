@@ -1,8 +1,8 @@
-Which definitions a value comes from. Notices, on standard error, are left out unless a case shows them.
+The definitions that a value comes from. Notices, on standard error, are left out unless a case shows them.
 
   $ why() { units_why "$@" 2> /dev/null; }
 
-The built-in definitions: a unit, a prefix and a unit, a plural, a plural with a prefix, and one name twice.
+The built-in definitions: a unit, a prefix with a unit, a plural, a plural with a prefix, and the same name twice.
 
   $ why mile
   \tDefinition: 5280 ft = 1609.344 m (esc)
@@ -31,7 +31,7 @@ The built-in definitions: a unit, a prefix and a unit, a plural, a plural with a
   m: unit, ! = 1 m [builtin:2]
   m: unit, see above
 
-A conversion has its reply, and then the tree of each side.
+A conversion prints its reply, and then the tree of each side.
 
   $ why '2 lb' kg
   \t* 0.90718474 (esc)
@@ -49,7 +49,7 @@ A conversion has its reply, and then the tree of each side.
   liter: unit, 1|1000 m^3 = 0.001 m^3 [builtin:45]
     m: unit, ! = 1 m [builtin:2]
 
-Values are written as the reply is.
+Values are written in the format of the reply.
 
   $ why --exact inch
   \tDefinition: in = 127|5000 m (esc)
@@ -61,7 +61,7 @@ Values are written as the reply is.
   lb: unit, 0.45359237 kg = 0.454 kg [builtin:56]
     kg: unit, ! = 1 kg [builtin:3]
 
-A number reaches no definition, and what is no expression has none either.
+A number uses no definitions, and neither does a text that is no expression.
 
   $ why 12
   \tDefinition: 12 (esc)
@@ -85,8 +85,8 @@ The locale decides which of two lines is in force.
     liter: unit, 1|1000 m^3 = 0.001 m^3 [builtin:45]
       m: unit, ! = 1 m [builtin:2]
 
-Functions, by an expression and by their inverse. The parts of a function are named, whichever is called. Below the
-function is what the call goes through.
+Functions and their inverses. All parts of a function are listed, whichever is called. The line below the function shows
+the argument and the tests of the call.
 
   $ why 'tempF(32)'
   \tDefinition: 273.15 K (esc)
@@ -139,7 +139,7 @@ A table of points, and its inverse.
       m: unit, ! = 1 m [builtin:2]
   in: unit, see above
 
-Calls inside of calls and of definitions, a call whose test fails, and one whose operand has no value.
+Calls within calls and within definitions, calls that fail a test, and one whose operand has no value.
 
   $ cat > calls.units <<'end'
   > m !
@@ -306,7 +306,7 @@ Calls inside of calls and of definitions, a call whose test fails, and one whose
   {"word":"h","depth":0,"key":"h()","how":"inverse function","text":"(x) units=[1;1] domain=[0,1] range=[0,) x^2 ; h^(1|2)","file":"calls.units","line":5,"call":{"branch":"inverse","operand":"4","range":{"interval":"[0,)","number":"4","inside":true},"domain":{"interval":"[0,1]","number":"2","inside":false}}}
   [1]
 
-Lines that a later one replaces are named with their places, but not those of another locale.
+The places of replaced lines are shown, but not those of lines for another locale.
 
   $ cat > twice.units <<'end'
   > m !
@@ -328,7 +328,7 @@ Lines that a later one replaces are named with their places, but not those of an
   ell: unit, 1.143 m = 1.143 m [twice.units:9; replaces twice.units:3, twice.units:5, twice.units:7]
     m: unit, ! = 1 m [twice.units:1]
 
-A variable of the environment decides too.
+An environment variable decides too.
 
   $ cat > system.units <<'end'
   > m !
@@ -348,7 +348,7 @@ A variable of the environment decides too.
   span: unit, 9 m = 9 m [system.units:3]
     m: unit, ! = 1 m [system.units:1]
 
-Four files, one included in another, each in its own folder; the lines after an include are in the first file again.
+Four files in nested folders, each included by the one before. The lines after an include are in its includer again.
 
   $ mkdir -p a/b/c
   $ printf 'm !\n!include a/one.units\ntop 2 one\n' > top.units
@@ -494,7 +494,7 @@ Faults, each at its place in the tree: an unknown word, a refused function, a cy
   s: unit, ! = 1 s [faults.units:3]
   [1]
 
-The step that has no value may be one of the expression itself. Its operands are shown as values.
+The step without a value may be in the expression itself. Its operands are shown as values.
 
   $ why -f faults.units '2 1e30 m vast'
   overflow
@@ -567,7 +567,7 @@ The step that has no value may be one of the expression itself. Its operands are
   {"word":"m","depth":1,"key":"m","how":"unit","text":"!","value":"1 m","file":"faults.units","line":1}
   [1]
 
-Each row is an object in JSON, after one of the reply.
+In JSON, the first object is the reply, and each of the others is a row.
 
   $ why --json km
   {"expression":"km","reply":"\u0009Definition: 1000 m","refused":false}
@@ -609,7 +609,7 @@ Each row is an object in JSON, after one of the reply.
   {"word":"\\\\b","depth":0,"key":"\\\\b","how":"unit","text":"2 caf\xc3\xa9","value":"2 caf\xc3\xa9","file":"odd \\"name\\\\.units","line":2} (esc)
   {"word":"caf\xc3\xa9","depth":1,"key":"caf\xc3\xa9","how":"unit","text":"!","value":"1 caf\xc3\xa9","file":"odd \\"name\\\\.units","line":1} (esc)
 
-The depth of a deep row is written before it.
+A row that is more than 20 deep begins with its depth.
 
   $ awk 'BEGIN { print "a !"; w = "a"; for (i = 0; i < 25; i++) { print w "a " w; w = w "a" } }' > deep.units
   $ why -f deep.units aaaaaaaaaaaaaaaaaaaaaaaaaa | tail -7
@@ -634,7 +634,7 @@ A file that cannot be read twice. If it includes no file, its lines have places;
   yd: unit, 0.9144 m = 0.9144 m [?]
     m: unit, ! = 1 m [?]
 
-Words that are not taken, and files that are not read.
+Refused arguments, and files that cannot be read or written.
 
   $ units_why
   units-why: usage: units-why [options] EXPRESSION [UNIT], or units-why --lint [options]

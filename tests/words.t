@@ -1,8 +1,8 @@
-Which words are taken, and each status. What stands on standard error is marked.
+Which command lines are accepted, and with which status. `err: ` marks lines of standard error.
 
   $ apart() { "$@" 2> err; status=$?; sed 's/^/err: /' err; return $status; }
 
-Words that are not taken.
+Refused command lines.
 
   $ apart units -d 0 m ft
   err: units: usage: units [options] [FROM [TO]]
@@ -29,8 +29,7 @@ Words that are not taken.
   err: units: usage: units [options] [FROM [TO]]
   [2]
 
-Numbers out of their ranges, an option twice, one without its value or that is not there, an operand with a sign
-before it.
+Numbers out of range, repeated and unknown options, options without a value, and operands that begin with a sign.
 
   $ usage='err: units: usage: units [options] [FROM [TO]]'
   $ for words in '-d 37 m' '-d x m' '-d -1 m' '-d' '--digits 1.5 m' '--trial 0' '--trial 20001' '--trial x' '--trial' \
@@ -44,8 +43,8 @@ before it.
   >   if [ $status != 2 ] || [ "$(cat said)" != "$usage" ]; then echo "$words: $status"; cat said; fi
   > done
 
-A column without a conversion: no TO, one that is blank or `?` whatever stands in its comment, no FROM, other work. A
-header without a column.
+`--column` without a conversion: no TO, a TO that is blank or `?` apart from a comment, no FROM, or other work.
+`--header` without `--column`.
 
   $ refused() {
   >   apart units "$@" < /dev/null > said
@@ -68,8 +67,8 @@ header without a column.
   $ refused --header m ft
   $ refused --header --check
 
-Numbers with a sign and with zeros before them, an operand behind `--`, options behind operands and in one word; a
-file that a trial does not ask for.
+Numbers with a sign and with leading zeros, an operand after `--`, options after operands, options in one word, and a
+file that a trial does not read.
 
   $ apart units -d 08 m ft
   \t* 3.2808399 (esc)
@@ -87,7 +86,7 @@ file that a trial does not ask for.
   $ apart units --trial 007
   definitions 8, edits 7, reply bytes 127, settled 2 of 8, reductions 18
 
-No variable of the environment chooses a file or a locale.
+No environment variable chooses a file or a locale.
 
   $ apart env UNITSFILE=none.units LOCALE=en_GB LANG=en_GB units gallon liter
   \t* 3.7854118 (esc)
@@ -129,7 +128,7 @@ Each option by its long name.
   bad: unknown unit: nosuch in bad
   [1]
 
-A file that is not there, and one that is too long.
+A file that does not exist, and one that is too long.
 
   $ apart units -f none.units m ft
   err: units: no file: none.units
