@@ -1,10 +1,10 @@
-Definition files: which lines count, includes, locales, variables, prefixes, cycles, limits. What stands on standard error
-is marked.
+Definition files: the lines that count, includes, locales, variables, prefixes, cycles and limits. Lines on standard
+error are marked with `err: `.
 
   $ apart() { "$@" 2> err; status=$?; sed 's/^/err: /' err; return $status; }
   $ file() { name=$1; shift; printf '%s\n' "$@" > "$name"; }
 
-The file of the first run.
+A file with one primitive and three units.
 
   $ file first.units 'm !' 'in 254|10000 m' 'ft 12|1 in' 'yd 3|1 ft'
   $ apart units --exact -f first.units yd m
@@ -23,7 +23,7 @@ The file of the first run.
   \t* 0.914 (esc)
   \t/ 1.09 (esc)
 
-Five units over two, in which values, conversions and faults are those of the definitions that are built in.
+Five units, two of them primitives. Values, conversions and faults are as with the built-in definitions.
 
   $ file e.units 'm !' 's !' 'day 86400|1 s' 'in 254|10000 m' 'ft 12|1 in'
   $ over() { apart units -f e.units "$@"; }
@@ -87,8 +87,7 @@ Five units over two, in which values, conversions and faults are those of the de
   syntax error at 1
   [1]
 
-The definitions that are built in, given as a file: whole, without those that are not linear, and without the table
-and the lists.
+The built-in definitions as a file: all of them, only the linear ones, and all but the table and the lists.
 
   $ sed '/^# nonlinear$/,$d' "$BUILTIN" > linear.units
   $ sed '/^zincgauge\[/,$d' "$BUILTIN" > functions.units
@@ -142,7 +141,7 @@ and the lists.
   unknown unit: zincgauge
   [1]
 
-A unit of a unit that is not there, and values beyond 127 bits.
+A unit whose definition has an unknown word, values beyond 127 bits, and units that do not conform.
 
   $ file y.units 'x 3|1 y'
   $ apart units --exact -f y.units x x
@@ -166,7 +165,7 @@ A unit of a unit that is not there, and values beyond 127 bits.
   \t1 s (esc)
   [1]
 
-Includes, one below another, each looked for beside the file that includes it.
+Nested includes, and the limit of their depth. A path is relative to the folder of the file that includes it.
 
   $ mkdir sub
   $ file main.units '!include sub/a.units' '!include gone.units'
@@ -181,7 +180,7 @@ Includes, one below another, each looked for beside the file that includes it.
   \tDefinition: 2 (esc)
   err: in_16.units:1: include too deep: in_17.units
 
-Variables, from the file and from the environment.
+Variables are set in the file or in the environment, which takes precedence.
 
   $ file walk.units 'm !' '!set UNITS_SIZE big' '!var UNITS_SIZE big' 'step 10 m' '!endvar' \
   >   '!varnot UNITS_SIZE big' 'step 1 m' '!endvar' 'walk 3 step'
@@ -192,7 +191,7 @@ Variables, from the file and from the environment.
   \t* 3 (esc)
   \t/ 0.33333333 (esc)
 
-A variable whose value is not UTF-8 is left out.
+A variable whose value is not UTF-8 is ignored.
 
   $ apart env "$(printf 'UNITS_SIZE=sm\377ll')" units -f walk.units walk m
   \t* 30 (esc)
@@ -208,7 +207,7 @@ Locales.
   \t* 2 (esc)
   \t/ 0.5 (esc)
 
-Lines without an effect, each with a notice; a file that is cut off.
+Lines without effect, each with a notice, and a file that ends in the middle of a block.
 
   $ file f.units 'm !' '!endvar' 'h- 3' '!nosuch' 'ok m'
   $ apart units -f f.units ok
@@ -240,7 +239,7 @@ Lines without an effect, each with a notice; a file that is cut off.
   \t/ 0.5 (esc)
   err: t.units:2: unclosed block
 
-Prefixes, the longest that leaves a unit; plurals; a name before a prefix.
+A name comes before a prefix, the singular of a plural is looked up, and the longest prefix that leaves a unit is taken.
 
   $ file km.units 'm !' 'k- 1000' 'km 7 m'
   $ apart units -f km.units km m
@@ -255,7 +254,8 @@ Prefixes, the longest that leaves a unit; plurals; a name before a prefix.
   \t* 0.7 (esc)
   \t/ 1.4285714 (esc)
 
-Cycles begin with the name in which they are met first.
+The chain of a cycle begins with the first of its names that is met. A refused function is reported with the key that
+uses it.
 
   $ file cycle.units 'm !' 'a b' 'b a' 'c 2 a'
   $ apart units -f cycle.units c
@@ -269,7 +269,7 @@ Cycles begin with the name in which they are met first.
   refused function: sin in a
   [1]
 
-A chain of 20,000 names, and a ring.
+A chain of 20,001 names, and a ring of them.
 
   $ { echo 'u_0 !'; for i in $(seq 20000); do echo "u_$i u_$((i - 1))"; done; } > chain.units
   $ apart units -f chain.units u_20000 u_0
@@ -283,7 +283,7 @@ A chain of 20,000 names, and a ring.
   cycle: u_0 -> u_20000 -> u_19999 -> u_1
   20001
 
-A deck of as many lines as there may be, and of one more.
+A deck may have 100,000 lines, and not one more.
 
   $ yes 'm !' | head -n 100000 > full.units
   $ apart units -f full.units m

@@ -1,7 +1,7 @@
-Edges from users to keys, by the calls of edge_links: `node` and `spare` answer a number, `users`
-the users of the edges to a key, and `unsettle` the nodes that were cleared.
+Edges from users to keys, by `test_decks edges`. `node` and `spare` answer a number, `users` the users of the edges to a
+key, and `unsettle` the nodes that it clears.
 
-Two edges lead to node 0, one of them over node 1. Nothing is left, and all room is back.
+Two nodes lead to node 0, one of them through node 1. `unsettle 0` removes both edges and frees their room.
 
   $ test_decks edges <<END
   > node
@@ -34,8 +34,8 @@ Two edges lead to node 0, one of them over node 1. Nothing is left, and all room
   none
   2
 
-An edge of a node to itself, and two equal edges. Node 2 reaches no other. A node that was
-forgotten has no edge that could be forgotten again.
+An edge of a node to itself, and two equal edges. Node 2 reaches no other node. A node that was cleared has no edges
+left to remove.
 
   $ test_decks edges <<END
   > node
@@ -74,7 +74,7 @@ forgotten has no edge that could be forgotten again.
   1
   4
 
-Only the edges of the forgotten node go, not those of another user of the same key.
+Only the edges of the cleared node are removed, not those of another user of the same key.
 
   $ test_decks edges <<END
   > node
@@ -97,7 +97,7 @@ Only the edges of the forgotten node go, not those of another user of the same k
   2
   1
 
-Nodes and room that are not there.
+Calls on absent nodes and links without room are refused. An unknown word is a bad call.
 
   $ test_decks edges <<END
   > users 0
@@ -124,10 +124,10 @@ Nodes and room that are not there.
   0
   bad call
 
-10,000 calls that link two of 40 nodes and forget one, at random, with the room that is left and the users of a key
-between them: at times a few edges between two that forget, at times so many that the room is used up. The answers are
-those of a plain list of edges (tools/comparisons/compare_edges.py --answer), with the users in the order of their
-numbers.
+10,000 random calls link two of 40 nodes or clear one, and calls between them ask for the room that is left and for the
+users of a key. Stretches with few links between two clears alternate with stretches in which the links use up the room.
+The answers are those of a plain list of edges (tools/comparisons/compare_edges.py --answer), in which users are sorted
+by number.
 
   $ awk '
   >   function below(n) { x = x * 16807 % 2147483647; return x % n }

@@ -1,9 +1,9 @@
-Functions with their inverses, tables of points and lists of units, over the definitions that are built in. What
-stands on standard error is marked.
+Functions with their inverses, tables of points and lists of units, with the built-in definitions. Lines on standard
+error are marked with `err: `.
 
   $ units() { command units "$@" 2> err; status=$?; sed 's/^/err: /' err; return $status; }
 
-A function at a value, and where it stands as TO its inverse. Absolute zero is -459.67 degrees Fahrenheit.
+A function in FROM is applied; as TO, its inverse is applied. Absolute zero is -459.67 degrees Fahrenheit.
 
   $ units "tempF(45)" tempC
   \t7.2222222 (esc)
@@ -22,7 +22,7 @@ A function at a value, and where it stands as TO its inverse. Absolute zero is -
   $ units -v "tempF(45)" tempC
   \ttempF(45) = tempC(7.2222222) (esc)
 
-What a function asks of its argument and of its result, and one that has no inverse.
+A function without an inverse, and an argument that does not have the unit that the function requires.
 
   $ cat > squares.units <<END
   > m !
@@ -35,7 +35,7 @@ What a function asks of its argument and of its result, and one that has no inve
   wrong argument: sq
   [1]
 
-Calls in calls, as deep as they go.
+Nested calls, up to the limit and one deeper.
 
   $ { echo "f_1(x) x"; for i in $(seq 2 17); do echo "f_$i(x) f_$((i - 1))(x)"; done; } > calls.units
   $ units -f calls.units "f_16(1)"
@@ -44,9 +44,9 @@ Calls in calls, as deep as they go.
   calls too deep: f_17
   [1]
 
-Expressions in functions in functions, each nested as deep as it may be, on the stack that most systems give: parentheses
-of roots, of products with the argument, of calls, of inverses and of signs, each in a sum, in a product, beside a number
-and with an exponent. Each is 1 where the argument is.
+Functions that call one another up to the limit, each with an expression nested up to the limit, on a stack of the usual
+size: roots, products with the argument, calls, inverses and signs, each in a sum, in a product, next to a number and
+with an exponent. Each has the value 1 for the argument 1. An expression that is nested deeper is refused.
 
   $ deep() { echo 'v_1(x) x ; v_1'; for i in $(seq 2 16); do printf "v_$i(x) "; printf "$1%.0s" $(seq $2); printf "v_$((i - 1))(x)"; printf ')^1%.0s' $(seq $2); echo; done; }
   $ usual() { (ulimit -s 8192; units "$@"); }

@@ -1,5 +1,5 @@
-The kinds of calls of the test programs, which the first word of the command line names. A missing word and an unknown
-one are refused. Each program has a stored run of its first kind; here are runs of the other kinds.
+The first word on the command line of a test program names the kind of its calls. A missing or unknown word is refused.
+Each program has a stored run of its first kind; this file has runs of the other kinds.
 
 The kinds of `test_values`.
 

@@ -1,9 +1,8 @@
-Quantities split into counts of units, as `test_values amounts` answers them. The expected counts come from Python's
-fractions.
+Quantities split into counts of units, by `test_values amounts`. The expected counts come from Python's fractions.
 
-Of each unit but the last the greatest whole count, of the last one what is left. A negative quantity has the
-counts of its magnitude, negated. Places of units count from 0; other exponents are looked at before numbers that
-are not above 0, and both before any step.
+Each unit but the last gets the greatest whole count, and the last gets the rest. A negative quantity has the negated
+counts of its magnitude. Faults number the units from 0. A unit that does not conform is reported before one that is not
+above 0, and both before an overflow.
 
   $ test_values amounts <<END
   > split 7|5 m;381|1250 m;127|5000 m
@@ -40,7 +39,8 @@ are not above 0, and both before any step.
   not conformable: 0
   not positive: 1
 
-The same with the last unit rounded: the nearest whole multiple of it is split, of two the even one.
+`round` first rounds the quantity to the nearest whole multiple of the last unit, or to the even one of two, and then
+splits it.
 
   $ test_values amounts <<END
   > round 7|5 m;381|1250 m;127|5000 m

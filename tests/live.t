@@ -1,10 +1,12 @@
-Live tables, by the calls of the crate live_table: a first `load FILE` makes the table of a file's deck, `value EXPRESSION` and
-`unapply NAME EXPRESSION` (the inverse of a function at what the expression is worth) are queries, `settle` asks for
-each name, and `counts` tells how many names are settled, how many have an entry, and how many were settled since the
-load. `define LINE`, `drop KEY`, `switch LOCALE`, `append FILE`, `splice AT CUT LINE;LINE..` and `back`, which takes the last
-splice back, are edits. A value is printed exactly. The answers are those of plain recursion in Python (tools/comparisons/compare_live.py --answer).
+Live tables, by `test_tables values`, which reads one call a line. The first call, `load FILE`, makes the table of a
+file's deck. `value EXPRESSION` and `unapply NAME EXPRESSION` (the inverse of a function at the value of the expression)
+are queries. `settle` queries every name. `counts` answers how many names are settled, how many have an entry, and how
+many times a name has been settled since the load. Edits are `define LINE`, `drop KEY`, `switch LOCALE`, `append FILE`,
+`splice AT CUT LINE;LINE..`, and `back`, which undoes the last splice. Values are exact. The expected answers are those
+of plain recursion in Python (tools/comparisons/compare_live.py --answer).
 
-A cycle has the chain of the name by which it is entered. No name fault is kept: each query gives its own.
+The chain of a cycle begins with the name at which the cycle is entered. Name faults are not kept: each query finds its
+own.
 
   $ cat > cycle.units <<'END'
   > m !
@@ -47,8 +49,8 @@ A cycle has the chain of the name by which it is entered. No name fault is kept:
   cycle: a -> b -> c -> a
   1 settled, 6 names, 1 reductions
 
-Cycles through the forward and the inverse expression of a function, its in unit and its out unit, an alias, the unit of a
-table of points, and a prefix. The trees of a function are gone through in the order in unit, out unit, forward, inverse.
+Cycles through the forward and the inverse expression of a function, its in unit and its out unit, an alias, the unit of
+a table of points, and a prefix. The parts of a function are searched in the order in unit, out unit, forward, inverse.
 
   $ cat > cycles.units <<'END'
   > m !
@@ -133,8 +135,8 @@ table of points, and a prefix. The trees of a function are gone through in the o
   ok
   2 settled, 20 names, 2 reductions
 
-Words that lead nowhere, with the key in whose entry they stand: a prefix, a function, an alias, a table, or none where they
-stand in the query. Behind `~` a function alone is sought, and a list leads nowhere.
+A word that leads nowhere is reported with the key whose entry has it: a unit, a prefix, a function, an alias or a
+table. A word of the query itself is reported without a key. Only a function can follow `~`, and a list leads nowhere.
 
   $ cat > unknown.units <<'END'
   > m !
@@ -220,8 +222,8 @@ stand in the query. Behind `~` a function alone is sought, and a list leads nowh
   unknown unit: nosuch
   2 settled, 15 names, 2 reductions
 
-Refused names under a call, under an inverse, under a root and at the head of a call, in a query and in an entry of
-each kind. What stands before one in the text is told before it.
+Refused functions inside a call, an inverse and a root, and at the head of a call, in a query and in an entry of each
+kind. If there are several faults, the first in the text is reported.
 
   $ cat > under.units <<'END'
   > m !
@@ -280,7 +282,7 @@ each kind. What stands before one in the text is told before it.
   6
   1 settled, 10 names, 1 reductions
 
-A word with a prefix and a unit has two targets, gone through in that order, the unit's fault after the prefix's.
+A word of a prefix and a unit has two targets. The prefix comes first, and so does its fault.
 
   $ cat > targets.units <<'END'
   > m !
@@ -319,8 +321,8 @@ A word with a prefix and a unit has two targets, gone through in that order, the
   cycle: a -> b -> a
   4 settled, 8 names, 4 reductions
 
-Lookup: a name before its parts, a plural's stem before prefixes, the longest prefix that leaves a unit, functions before units at
-a call and after them alone. A unit at the place of a call is multiplied.
+Lookup: a name comes before its parts, the stem of a plural before prefixes, and the longest prefix that leaves a unit
+is taken. A function comes before a unit in a call, and after it elsewhere. A unit at the head of a call multiplies.
 
   $ cat > lookup.units <<'END'
   > m !
@@ -390,9 +392,9 @@ a call and after them alone. A unit at the place of a call is multiplied.
   no inverse: g
   13 settled, 13 names, 13 reductions
 
-The counts after each of a list of queries. What a query reaches is settled once, however many words reach it; a query with a name
-fault settles nothing, also of the names before the fault; one with a value fault settles all that it reaches, for
-its names lead somewhere; what the text of an expression itself lacks is told before anything is asked.
+The counts after queries. A name that a query reaches is settled once, however many words reach it. A query with a name
+fault settles nothing, not even the names before the fault. A query with a value fault settles all names that it
+reaches, since all of them lead somewhere. A syntax error is reported before any name is looked up.
 
   $ cat > counts.units <<'END'
   > m !
@@ -489,7 +491,7 @@ its names lead somewhere; what the text of an expression itself lacks is told be
   ok
   10 settled, 11 names, 10 reductions
 
-Queries of kept names are answered alike, and the order of queries does not matter.
+Queries of settled names give the same answers, and the order of queries does not matter.
 
   $ test_tables values > forth <<'END'
   > load counts.units
@@ -522,7 +524,8 @@ Queries of kept names are answered alike, and the order of queries does not matt
   2 m^2
   9 settled, 11 names, 9 reductions
 
-Value faults of functions behind names, in the order of their tests, and the first fault where a name's own is kept.
+Value faults of functions that names lead to, in the order of their tests. A name keeps its value fault. The first fault
+of an expression is reported.
 
   $ cat > faults.units <<'END'
   > m !
@@ -584,7 +587,7 @@ Value faults of functions behind names, in the order of their tests, and the fir
   argument needed: no
   10 settled, 11 names, 10 reductions
 
-Functions that call one another: the greatest rank is 16.
+Functions that call one another can be called up to rank 16.
 
   $ (echo 'f_1(x) x + 1 ; f_1 - 1'; for i in $(seq 2 16); do echo "f_$i(x) f_$((i - 1))(x) ; ~f_$((i - 1))(f_$i)"; done) > deep.units
   $ printf 'g() f_16\nt[f_16(1)] 0 1, 1 2\nh(x) g\nu f_16(2)\nw g(2)\n' >> deep.units
@@ -611,7 +614,7 @@ Functions that call one another: the greatest rank is 16.
   calls too deep: g
   21 settled, 21 names, 21 reductions
 
-What is loaded, and what is no call. Where nothing is loaded, that is the only answer.
+Loads, and lines that are not calls. If nothing is loaded, the reason is the only answer.
 
   $ printf 'value 2\ncounts\n' | test_tables values
   no deck
@@ -657,7 +660,7 @@ What is loaded, and what is no call. Where nothing is loaded, that is the only a
   1 settled, 13 names, 1 reductions
   ok
 
-A locale and variables choose among entries, and a name that is refused by its line has no entry.
+A locale and variables select entries. A line with a bad name is refused and defines nothing.
 
   $ printf 'm !\n!locale en_US\ng 3 m\n!endlocale\n!locale en_GB\ng 2 m\n!endlocale\n1a m\nb 1a\n!set V x\n!var V x\nh 5 m\n!endvar\n' > blocks.units
   $ test_tables values <<'END'
@@ -671,8 +674,8 @@ A locale and variables choose among entries, and a name that is refused by its l
   unknown unit: a in b
   3 settled, 4 names, 3 reductions
 
-A ring of 20,000 names has its whole chain from each of its names on, and settles nothing; a name that leads to the ring has the chain of
-where it enters. Each key of the chain is followed by the one before it.
+A ring of 20,000 names. The chain from each of its names is the whole ring, and nothing is settled. If a name leads to
+the ring, the chain begins where it enters. Each name in the chain is followed by the one before it in the ring.
 
   $ (echo 'u_0 2 u_19999'; for i in $(seq 1 19999); do echo "u_$i 3 u_$((i - 1))"; done; echo 'in u_12345') > ring.units
   $ test_tables values > answers <<'END'
@@ -713,7 +716,7 @@ where it enters. Each key of the chain is followed by the one before it.
   $ sed -n 3p answers | sed 's/cycle: //; s/ -> /\n/g' > chain
   $ (seq 12345 -1 0; seq 19999 -1 12345) | sed 's/^/u_/' | cmp chain -
 
-A chain of 20,000 names is settled by its last, each once, and each later query of it settles nothing.
+A chain of 20,001 names. Queries settle each name once, and a query of settled names settles nothing.
 
   $ (echo 'u_0 !'; for i in $(seq 1 20000); do echo "u_$i $((2 - i % 2))|$((1 + i % 2)) u_$((i - 1))"; done) > chain.units
   $ test_tables values <<'END'
@@ -737,9 +740,9 @@ A chain of 20,000 names is settled by its last, each once, and each later query 
   ok
   20001 settled, 20001 names, 20001 reductions
 
-Edits: `define LINE`, `drop KEY`, `switch LOCALE` and `append FILE`, each with what it forgets. A name that is defined anew is
-forgotten with its users and no other; an equal definition puts its line and forgets nothing, so to drop that forgets
-nothing either; a drop uncovers the line before. A refused edit changes nothing.
+Edits. If a name is redefined, it and its users are forgotten, and no other name. An equal definition adds its line and
+forgets nothing, and so dropping it forgets nothing either. A drop uncovers the line before. A refused edit changes
+nothing.
 
   $ printf 'm !\na 2 m\nb 3 a\nc 5 m\n' > edits.units
   $ test_tables values <<'END'
@@ -785,8 +788,8 @@ nothing either; a drop uncovers the line before. A refused edit changes nothing.
   refused
   4 settled, 4 names, 8 reductions
 
-A prefix that a name shadows and uncovers again, a name that was absent when it was looked at, and a cycle that is made and
-broken.
+A name shadows a prefix and uncovers it again, a name that was absent when it was looked up is defined, and a cycle is
+made and broken.
 
   $ printf 'm !\nk- 1000\nx 2 km\ny zz\np q\nq 4 m\n' > shadow.units
   $ test_tables values <<'END'
@@ -830,8 +833,8 @@ broken.
   ok
   4 m
 
-A prefix that led nowhere, behind the one that did, and the name that would have followed it: a name that looked at
-them is forgotten, a query that did is answered anew, and no other name is touched. A cycle that is made and broken.
+A change of a prefix that was tried and left no unit, and of the name that it would have left: a name that looked them
+up is forgotten, a query that did is answered anew, and no other name is affected. A cycle is made and broken.
 
   $ printf 'm !\nda- 10\nd- 1|10\nab 7 m\nx dab\ny ab\np q\nq 4 m\n' > nowhere.units
   $ test_tables values <<'END'
@@ -907,7 +910,7 @@ them is forgotten, a query that did is answered anew, and no other name is touch
   4 m
   7 settled, 7 names, 15 reductions
 
-Both locales to and fro, and an append that redefines half of the names.
+Switches to the other locale and back, and an append that redefines half of the names.
 
   $ printf 'm !\n!locale en_US\ngal 3 m\n!endlocale\n!locale en_GB\ngal 4 m\n!endlocale\nv 2 gal\nw 9 m\n' > locales.units
   $ printf 'gal 5 m\nw 8 m\n' > half.units
@@ -942,8 +945,8 @@ Both locales to and fro, and an append that redefines half of the names.
   10 m
   8 m
 
-Every splice of a small deck, with a few puts, and then its inverse: which are refused, and what each answers, counts too, is
-worth before and behind it.
+Every splice of a small deck, with a few texts to insert, and its inverse. The three counts are of refused splices, of
+refused calls of `back`, and of calls that are done. The checksum is that of all answers.
 
   $ cat > spliced.units <<'END'
   > m !

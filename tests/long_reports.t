@@ -1,4 +1,4 @@
-Check reports that are longer than one block. They are written as they are made, so their bytes and their ending are
+Reports of checks that are longer than one block. They are written as they are made, so their bytes and their ending are
 compared with those of a text that `awk` makes.
 
 A ring of 200 names has 200 faults, each with all of the names: 485,200 bytes.
@@ -20,14 +20,14 @@ A ring of 200 names has 200 faults, each with all of the names: 485,200 bytes.
   $ wc -c < report
   485200
 
-Notices come first also here, and a notice alone is a report.
+Notices come before the faults.
 
   $ printf 'm !\n!endvar\n' | cat - ring.units > noticed.units
   $ units -c -f noticed.units > report
   [1]
   $ { echo 'noticed.units:2: stray end'; cat wanted; } | cmp report -
 
-A sink that fails gives the status 5, whatever was written before.
+If the output fails, the status is 5, whatever was written before.
 
   $ units -c -f ring.units > /dev/full
   [5]

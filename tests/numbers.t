@@ -1,7 +1,7 @@
-Steps on fractions of 127 bits, as `test_values numbers` answers them, a call a line. The expected numbers are those of
-Python's fractions.
+Operations on fractions of 127 bits, by `test_values numbers`, which reads one call a line. The expected numbers are
+those of Python's fractions.
 
-A numerator over a denominator. The least number of 128 bits is no numerator, but a quotient by it may fit.
+A numerator over a denominator. They may be the least number of 128 bits if the reduced fraction fits.
 
   $ test_values numbers <<END
   > new 6 -4
@@ -38,7 +38,7 @@ A numerator over a denominator. The least number of 128 bits is no numerator, bu
   overflow
   0
 
-Products are reduced before they are made, so that one that fits never overflows.
+Factors are reduced before they are multiplied, so that a product that fits never overflows.
 
   $ test_values numbers <<END
   > mul 85070591730234615865843651857942052864 3|4
@@ -88,7 +88,7 @@ Quotients.
   0
   division by zero
 
-Which fractions are 0.
+Whether a fraction is 0.
 
   $ test_values numbers <<END
   > zero 85070591730234615865843651857942052864
@@ -113,7 +113,7 @@ Which fractions are 0.
   true
   false
 
-Sums overflow where the least common multiple of the denominators, a numerator over it or the sum is too large.
+A sum overflows if the least common multiple of the denominators, a numerator over it or the sum is too large.
 
   $ test_values numbers <<END
   > add 1|6 1|10
@@ -163,7 +163,7 @@ Differences.
   overflow
   1|170141183460469231731687303715884105727
 
-The order, at full width.
+Comparisons are exact for the largest numbers too.
 
   $ test_values numbers <<END
   > cmp 1|6 1|10
@@ -188,7 +188,7 @@ The order, at full width.
   greater
   greater
 
-The other sign, and the sum with it.
+Negations, and the sum of a number and its negation, which is 0.
 
   $ test_values numbers <<END
   > negate 1|6
@@ -233,7 +233,7 @@ The other sign, and the sum with it.
   0
   0
 
-The whole part is rounded down.
+`floor` rounds down.
 
   $ test_values numbers <<END
   > floor 7|2
@@ -291,7 +291,7 @@ Powers stop at the first product that is too large, whatever the exponent.
   overflow
   overflow
 
-Roots are exact or none.
+A root is exact, or there is none.
 
   $ test_values numbers <<END
   > root 4|9 2

@@ -1,6 +1,6 @@
 Numerals, as `test_values numbers` reads them. The expected values are those of Python's fractions.
 
-The length of the longest numeral at the front of a text, 0 where none is.
+The length of the longest numeral at the front of a text, or 0 if there is none.
 
   $ test_values numbers <<END
   > length 5.
@@ -55,7 +55,7 @@ The length of the longest numeral at the front of a text, 0 where none is.
   0
   0
 
-The value of a numeral that is the whole text.
+The value of a text that is a numeral.
 
   $ test_values numbers <<END
   > numeral 5.
@@ -110,13 +110,13 @@ The value of a numeral that is the whole text.
   not a numeral
   not a numeral
 
-No text is no numeral.
+An empty text is not a numeral.
 
   $ printf 'length \nnumeral \n' | test_values numbers
   0
   not a numeral
 
-Zeros do not count, however many stand before, among or after the digits.
+Zeros before and after the other digits never make a numeral too long.
 
   $ zeros=$(printf %060000d 0)
   $ for text in "$zeros" "1$zeros" "${zeros}1.5" "2.5$zeros"; do

@@ -1,5 +1,5 @@
-Tables of points, as `test_values amounts` reads them both ways: `at` an x, and `back` at a y. The expected values come
-from Python's fractions.
+Tables of points, by `test_values amounts`: `at` answers the y at an x, and `back` the x at a y. The expected values
+come from Python's fractions.
 
 A table that rises.
 
@@ -62,7 +62,7 @@ A table that rises.
   outside the table
   outside the table
 
-Flat and falling segments: the first one that holds the number counts, and a flat one gives its left end.
+Flat and falling segments: `back` uses the first segment that contains the y, and gives the left end of a flat one.
 
   $ sed 's:POINTS:1 5;2 5;3 4;5 -4;6 7:' <<END | test_values amounts
   > at 1;POINTS
@@ -119,7 +119,7 @@ Flat and falling segments: the first one that holds the number counts, and a fla
   outside the table
   outside the table
 
-A step that does not fit is named, though what it leads to may fit.
+A step that overflows is reported, even if the result would fit.
 
   $ sed 's:POINTS:0 0;85070591730234615865843651857942052864 85070591730234615865843651857942052864:' <<END | test_values amounts
   > at 0;POINTS
@@ -167,7 +167,7 @@ A step that does not fit is named, though what it leads to may fit.
   outside the table
   overflow
 
-Points are a table where there are 2 to 1,000 whose x rise strictly.
+A table has 2 to 1,000 points, whose x increase strictly.
 
   $ test_values amounts <<END
   > at 1|2;

@@ -1,6 +1,6 @@
-The texts of fractions, as `test_values numbers` prints them. The expected texts come from Python's decimal and fractions.
+The texts of fractions, by `test_values numbers`. The expected texts come from Python's decimal and fractions.
 
-With so many significant digits: the nearest such number.
+`digits N` prints the nearest number of N significant digits, or the even one of two.
 
   $ test_values numbers <<END
   > digits 2 199|2
@@ -63,7 +63,7 @@ With so many significant digits: the nearest such number.
   1.5
   1.7e+02
 
-Exactly.
+`exact` prints the fraction itself.
 
   $ test_values numbers <<END
   > exact 3

@@ -1,8 +1,7 @@
-Steps on quantities, as `test_values amounts` answers them, a call a line. The expected values come from the rules by
-hand and from Python's fractions. Each step has two forms: one borrows the quantity on its left, the other takes
-it over.
+Operations on quantities, by `test_values amounts`, which reads one call a line. The expected values were worked out by
+hand and with Python's fractions. Each operation has two forms: one borrows its left operand, the other consumes it.
 
-Products: the exponents are added. A fault of the numbers comes before one of an exponent.
+Products: the exponents are added. A fault of the number comes before one of an exponent.
 
   $ test_values amounts <<END
   > mul 2 m;3 m^2
@@ -76,7 +75,7 @@ Quotients: the exponents are subtracted.
   170141183460469231731687303715884105727|2 m^32766
   170141183460469231731687303715884105727|2 m^32766
 
-Sums and differences: the exponents have to be equal, which is looked at before the numbers.
+Sums and differences: the exponents have to be equal, which is tested before the numbers are added.
 
   $ test_values amounts <<END
   > add 1|2 m;1|3 m
@@ -124,7 +123,7 @@ Sums and differences: the exponents have to be equal, which is looked at before 
   0
   0
 
-Both quantities that do not conform are told, with all their names.
+If two quantities do not conform, both are reported with all their names.
 
   $ test_values amounts <<END
   > add 2 m;3 s
@@ -133,8 +132,8 @@ Both quantities that do not conform are told, with all their names.
   not conformable: 2 m and 3 s
   not conformable: 2 m and 3 s
 
-Powers with a fraction as exponent: the numerator is a power, the denominator a root, of the number and of each
-exponent. The exponent of a power has no exponents of its own, and is looked at first.
+Powers with a fraction as exponent: its numerator is a power of the number and its denominator a root, and each exponent
+is multiplied by it. It has to be a number without names, which is tested first.
 
   $ test_values amounts <<END
   > pow 1 m;32767
@@ -219,7 +218,7 @@ exponent. The exponent of a power has no exponents of its own, and is looked at 
   exponent not a number
   exponent not a number
 
-Names stand in the order of their bytes, those with negative exponents behind a slash.
+Names are sorted by their bytes. Those with negative exponents follow a slash.
 
   $ test_values amounts <<END
   > copy 1 m^2 s^-2 mol^-1 kg K^-1
@@ -228,7 +227,7 @@ Names stand in the order of their bytes, those with negative exponents behind a 
   1 kg m^2 / K mol s^2
   1 kg m^2 / K mol s^2
 
-Numbers, with eight digits and exactly, and exponents.
+Numbers and exponents, to eight digits and exactly.
 
   $ test_values amounts <<END
   > digits 8;1|2 m^-1
@@ -253,7 +252,7 @@ Numbers, with eight digits and exactly, and exponents.
   1.1574074e-05 m / s^3
   1|86400 m / s^3
 
-A copy, and the number with the other sign.
+Copies, negations, and the exponent of a name.
 
   $ test_values amounts <<END
   > digits 8;2|3 m^-3|2
@@ -272,8 +271,8 @@ A copy, and the number with the other sign.
   -3|2
   0
 
-Quantities conform where each name has the same exponent in both, and are reciprocal where each has the other's
-with the other sign.
+Two quantities conform if each name has the same exponent in both. They are reciprocal if each name has opposite
+exponents.
 
   $ test_values amounts <<END
   > conforms 2 m^1|2;2 m^1|2
@@ -296,7 +295,7 @@ with the other sign.
   yes
   no
 
-What is no call.
+Lines that are not calls.
 
   $ test_values amounts <<END
   > half 3

@@ -1,4 +1,4 @@
-`qunits` runs `units` over the standard library, or over the user's own file, on words as people say them.
+`qunits` runs `units` with the standard library, or with the user's own file, on words as people say them.
 
   $ apart() { "$@" 2> err; status=$?; sed 's/^/err: /' err; return $status; }
 
@@ -25,7 +25,7 @@ Conversions without quotes: `to`, `into`, `->` and `=` separate FROM and UNIT.
   $ apart qunits -t "60 mph to km/h"
   96.56064
 
-One word each: FROM and UNIT, as for `units`. A number and a unit are FROM alone.
+FROM and UNIT may be one word each, as for `units`. A number and a unit alone are FROM.
 
   $ apart qunits "1 acre" m^2
   \t* 4046.8564 (esc)
@@ -84,7 +84,7 @@ A UNIT of several words, and names that people write as two words.
   unknown unit: nosuch
   [1]
 
-Fractions of whole numbers are numbers, and so is a whole number with a fraction. (`units` divides by `4 in`.)
+Fractions of whole numbers are numbers, and so is a whole number with a fraction. (`units` would divide by `4 in`.)
 
   $ apart qunits 3/4 in
   \tDefinition: 0.01905 m (esc)
@@ -123,7 +123,7 @@ The units that conform, with and without `to`.
   $ qunits 1 acre '?' | grep -c '^.hectare'
   1
 
-Options come before FROM or after UNIT, and are those of `units`. Each keeps its quoting.
+The options are those of `units`, and come before FROM or after UNIT. Each keeps its quoting.
 
   $ apart qunits -d 3 60 mph to km/h
   \t* 96.6 (esc)
@@ -148,7 +148,8 @@ Options come before FROM or after UNIT, and are those of `units`. Each keeps its
   $ qunits --trial 3
   definitions 4, edits 3, reply bytes 43, settled 3 of 4, reductions 4
 
-A minus after the first word of FROM is a difference; in front it is a sign. `-1` before a unit may be either.
+A minus after the first word of FROM subtracts; at the beginning it is a sign. `-1` next to a unit may be a number or
+the option, and is refused.
 
   $ apart qunits -t 5 ft -1 in to cm
   149.86
@@ -194,7 +195,7 @@ Words that are refused.
   err: units: usage: units [options] [FROM [TO]]
   [2]
 
-A file of one's own, and words with an `-f`.
+A file of the user's own, and command lines with `-f`.
 
   $ mkdir 'a folder'
   $ printf 'm !\ntwo 2 m\n' > 'a folder/small.units'
@@ -228,7 +229,7 @@ A file of one's own, and words with an `-f`.
   [2]
   $ rm -r .config
 
-The first file of one's own includes the standard library, and has nothing that the check reports.
+`--new` makes the user's own file, which includes the standard library. The check finds no fault in it.
 
   $ apart qunits --new
   */.config/units/my.units (glob)
@@ -251,7 +252,7 @@ The first file of one's own includes the standard library, and has nothing that 
   [5]
   $ rm -r .config
 
-Sessions: the words of a session go to `units` as they are.
+In a session, lines go to `units` unchanged.
 
   $ printf '1 acre\nm^2\nto m\n' | apart qunits -q
   \t* 4046.8564 (esc)
@@ -263,7 +264,7 @@ Sessions: the words of a session go to `units` as they are.
   a folder
   err
 
-Hints on standard error, unless `-q` or `-t` is given.
+Hints are printed on standard error, unless `-q` or `-t` is given.
 
   $ apart qunits 1 acer to m^2
   unknown unit: acer
@@ -333,7 +334,7 @@ Hints on standard error, unless `-q` or `-t` is given.
   qunits: "+" adds; to split a quantity, write a list such as "ft;in" after to
   [1]
 
-Statuses from 4 to 7 have a reason.
+For statuses from 4 to 7, the reason is printed.
 
   $ apart qunits -f . m ft
   err: qunits: a file or standard input could not be read
@@ -350,7 +351,7 @@ Statuses from 4 to 7 have a reason.
   err: qunits: the input is too long for one run; convert a long column in blocks by parallel --pipe (see units(1))
   [7]
 
-What another program in the place of `units` is called with, and a status that the real one seldom has.
+The arguments that another program in the place of `units` gets, and a status that `units` seldom has.
 
   $ mkdir bin && cp "$(command -v qunits)" bin/ && ln -s "${LIBRARY%/units/*}" share
   $ printf '#!/bin/sh\nprintf "<%%s>" "$@"; echo\nexit $STATUS\n' > bin/units && chmod +x bin/units
@@ -364,7 +365,7 @@ What another program in the place of `units` is called with, and a status that t
   <-tf><x><--check><--><5 m><ft>
   [1]
 
-The chain of definitions, if the program for it is there.
+`--why` shows the chain of definitions, if `units-why` is installed.
 
   $ apart bin/qunits --why 3 dyn
   err: qunits: units-why, which --why needs, is not installed

@@ -1,7 +1,6 @@
-What the manual page warns of, each caveat with the way around it. Those of columns are run by
-tools/checks/check_recipes.sh.
+The caveats of the manual page, each with a way around it. Those of columns are run by tools/checks/check_recipes.sh.
 
-A save writes the definitions in force: no comment, no include, no message, no faulty line, nothing of other locales.
+A save writes the definitions in force: no comments, includes, messages or faulty lines, and nothing of other locales.
 
   $ printf 'm !\n' > base.units
   $ cat > own.units << END
@@ -35,7 +34,8 @@ A # begins a comment in the name of a file too.
   $ ls a*
   a
 
-A save that cannot be written ends the session with status 5, and a load of a file that cannot be read ends it with 4. Neither prints a reason.
+A save that cannot be written ends the session with status 5, and a load of a file that cannot be read ends it with
+status 4. Neither prints a reason.
 
   $ mkdir folder
   $ printf ':define ell 45 in\n:save folder\nell\n\n' | units -q
@@ -43,21 +43,21 @@ A save that cannot be written ends the session with status 5, and a load of a fi
   $ printf ':define ell 45 in\n:load folder\nell\n\n' | units -q
   [4]
 
-A file that does not exist is refused, and the session goes on.
+A load of a file that does not exist is refused, and the session goes on.
 
   $ printf ':define ell 45 in\n:load nothing\nell\nm\n' | units -q
   no file: nothing
   \t* 1.143 (esc)
   \t/ 0.87489064 (esc)
 
-So edits are saved before a load, to a file that can be written.
+So it is best to save edits before a load, to a file that can be written.
 
   $ printf ':define ell 45 in\n:save ell.units\n:load folder\n' | units -q
   [4]
   $ units -t -f ell.units ell m
   1.143
 
-After a refused FROM or TO the next line is FROM. After a command the session asks for the same again.
+After a refused FROM or TO, the next line is FROM. After a command, the session asks for the same line again.
 
   $ printf 'ft\nnosuch\nm\nin\n' | units -q -1
   unknown unit: nosuch
@@ -74,7 +74,7 @@ A program that writes to a session keeps prompts on: `You have: ` or `You want: 
   You have: You have: You want: \t* 0.3048 (esc)
   You have:  (no-eol)
 
-One run takes 16 MiB of a column: one byte more, and not a row is written.
+One run takes at most 16 MiB of a column. With one byte more, no row is written.
 
   $ yes 1 | head -c 16777216 > large
   $ units --column 1 ft in < large | wc -c | tr -d ' '

@@ -1,9 +1,9 @@
-The report of a check, and the units that conform to an expression. What stands on standard error is marked.
+The report of a check, and the units that conform to an expression. Lines on standard error are marked with `err: `.
 
   $ apart() { "$@" 2> err; status=$?; sed 's/^/err: /' err; return $status; }
   $ file() { name=$1; shift; printf '%s\n' "$@" > "$name"; }
 
-Faults of names and of values, with the notices before them, all on standard output.
+A check prints notices and then the faults of names and values, all on standard output.
 
   $ file c.units 'm !' 'bad 2 nosuch' 'h 6.62607015e-34 m'
   $ apart units -c -f c.units
@@ -37,9 +37,8 @@ Faults of names and of values, with the notices before them, all on standard out
   err: units: no file: none.units
   [3]
 
-Each kind of fault in each kind of key: in the body of a unit, in that of a prefix, in the in unit of a function, in
-the unit of a table of points, in a part of a list; and faults of names in what an alias leads to, which is asked for
-no value.
+Each kind of fault in each kind of key: in the body of a unit and of a prefix, in the in unit of a function, in the unit
+of a table of points, and in a part of a list. In the target of an alias, only faults of names are reported.
 
   $ {
   >   printf '%s\n' 'm !' 's !' 'sq(x) units=[m;m^2] x^2' 'low(x) domain=[0,10] range=[0,50] x^2' \
@@ -161,7 +160,7 @@ no value.
   unknown_t(): unknown unit: nosuch in unknown_t()
   [1]
 
-Each prefix of the definitions that are built in is checked: its notices and the faults of its keys are those of plain
+Each initial part of the text of the built-in definitions is checked. The notices and the faults are those of plain
 recursion in Python (tools/comparisons/compare_reports.py --prefixes).
 
   $ for i in $(seq 0 1057); do head -c $i "$BUILTIN" > p.units; units -c -f p.units; echo $?; done > prefixes
@@ -178,7 +177,7 @@ recursion in Python (tools/comparisons/compare_reports.py --prefixes).
   $ md5sum < prefixes
   bc601fe6c8d51d2964cc48b8065f5c29  -
 
-The units that conform, in the order of names.
+The units that conform are sorted by name.
 
   $ file mil.units 'm !' 's !' 'min 60 s' 'mil 5 m' 'milli- 1|1000'
   $ apart units -f mil.units "2 s" "?"

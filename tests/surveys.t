@@ -1,9 +1,9 @@
-Reports on all definitions, by the calls of the crate survey. The first line, `load FILE`, loads a deck. `check`
-answers a line for each key that has a fault, `search TEXT` a row for each key whose name holds TEXT, and
-`conformable FROM` one for each unit that conforms to what FROM is worth. Behind a fault in the place of a report stands
-a line that says so. `options` are those of replies.
+Reports on all definitions, by `test_tables answers`. The first call, `load FILE`, loads a deck. `check` answers a line
+for each key that has a fault, `search TEXT` a row for each key whose name contains TEXT, and `conformable FROM` a row
+for each unit that conforms to FROM. If a fault takes the place of a report, `refused` follows it. `options` sets the
+options of replies.
 
-Nothing is wrong with the definitions that are built in.
+The built-in definitions have no faults.
 
   $ test_tables answers <<END
   > load $BUILTIN
@@ -14,7 +14,8 @@ Nothing is wrong with the definitions that are built in.
   ok
   ok
 
-Units: a word that leads nowhere, in their own definition or in another, refused functions, cycles asked at each name.
+Faults of units: unknown words in their own definition or in another one, refused functions, and cycles, which are
+reported for each of their names.
 
   $ cat > names.units <<'END'
   > m !
@@ -73,7 +74,8 @@ Units: a word that leads nowhere, in their own definition or in another, refused
   two: cycle: two -> three -> one -> two
   unknown: unknown unit: nosuch in unknown
 
-Units without a value. A fault of names is told before one of values. Quantities of a sum are written by the options.
+Units without a value. A name fault is reported before a value fault. The options set the form of the quantities of a
+sum.
 
   $ cat > values.units <<'END'
   > m !
@@ -143,7 +145,8 @@ Units without a value. A fault of names is told before one of values. Quantities
   tiny: overflow
   wrong: wrong argument: square
 
-Prefixes: the faults of their bodies. A chain that holds the prefix begins and ends with it, and another one stays.
+Faults in the bodies of prefixes. A chain that contains the prefix begins and ends with it; any other chain is
+unchanged.
 
   $ cat > prefixes.units <<'END'
   > m !
@@ -190,8 +193,8 @@ Prefixes: the faults of their bodies. A chain that holds the prefix begins and e
   vb: cycle: vb -> pb- -> ub -> vb
   vc: cycle: vc -> uc -> vc
 
-Functions: the faults of their names, in the in unit, the out unit, the forward and the inverse expression in this
-order, and then the values of both units. What they give is not asked.
+Faults of functions: first those of the names in the in unit, the out unit, the forward and the inverse expression, in
+this order, and then those of the values of both units. The expressions themselves are not evaluated.
 
   $ cat > functions.units <<'END'
   > m !
@@ -229,7 +232,7 @@ order, and then the values of both units. What they give is not asked.
   rung: cycle: rung -> ring() -> rung
   unit(): unknown unit: nosuch in unit()
 
-A function of too high a rank is no fault of its own, but of what calls it.
+A rank that is too high is not a fault of the function, but of each unit that calls it.
 
   $ {
   >   echo 'f_1(x) x'
@@ -244,7 +247,7 @@ A function of too high a rank is no fault of its own, but of what calls it.
   deep: calls too deep: f_17
   deeper: calls too deep: to
 
-Aliases and tables. An alias has no unit of its own, so of what it leads to the names alone are asked.
+Aliases and tables. An alias has no unit of its own, so the check covers only the names that its target uses.
 
   $ cat > tables.units <<'END'
   > m !
@@ -285,8 +288,8 @@ Aliases and tables. An alias has no unit of its own, so of what it leads to the 
   word(): unknown unit: nosuch in word()
   worth(): overflow
 
-Lists: each part in order, with the fault of its names or of its value, then the first that does not conform to the
-first one, then the first that is not above 0. A word of a part stands in no definition.
+Lists: the parts are checked in order for faults of their names and values, then the first that does not conform to the
+first part is reported, then the first that is not above 0. An unknown word of a part is reported without a key.
 
   $ cat > lists.units <<'END'
   > m !
@@ -328,8 +331,8 @@ first one, then the first that is not above 0. A word of a part stands in no def
   ub: cycle: ub -> ua -> ub
   unknown: unknown unit: nosuch in unknown
 
-Keys stand in byte order of their names, and of one name unit, prefix, function, list. The last definition in force
-counts.
+Keys are sorted by the bytes of their names; keys of the same name are in the order unit, prefix, function, list. The
+last definition in force counts.
 
   $ cat > order.units <<'END'
   > m !
@@ -376,7 +379,7 @@ counts.
   \tsame()\t(x) none x (esc)
   \t!unitlist same\tnone (esc)
 
-A search seeks in names alone, at each place of them, and asks for nothing. What is not in any name is found nowhere.
+A search finds the text anywhere in a name, and only in names. It evaluates nothing.
 
   $ cat > search.units <<'END'
   > m !
@@ -455,7 +458,7 @@ A search seeks in names alone, at each place of them, and asks for nothing. What
   no matching names
   no matching names
 
-What conforms to a quantity: units alone, those that have a value. Its magnitude counts for nothing.
+The units that conform to a quantity. Only units that have a value are listed. The size of the quantity does not matter.
 
   $ test_tables answers <<END
   > load search.units

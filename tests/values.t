@@ -57,7 +57,7 @@ Numerals, units and prefixes.
   3 m s
   2000 m
 
-A primitive that counts as 1 is no unit of its own, and a name is worth what is kept of it, its fault too.
+The value of a dimensionless primitive is 1. A name keeps its value or its fault.
 
   $ cat > t.units <<'END'
   > rad !dimensionless
@@ -87,7 +87,7 @@ A primitive that counts as 1 is no unit of its own, and a name is worth what is 
   division by zero
   division by zero
 
-Each fault of a value where it comes first, with another behind it.
+Each fault of a value, before another fault: the first is reported.
 
   $ cat > t.units <<'END'
   > m !
@@ -138,8 +138,8 @@ Each fault of a value where it comes first, with another behind it.
   argument needed: t
   division by zero
 
-The first fault is that from left to right: in a prefix with its unit, a sum of three, a power, a call whose argument
-and whose in unit are both faulty.
+The first fault from left to right is reported: in a prefix with its unit, in a sum of three, in a power, and in a call
+whose argument and in unit both have faults.
 
   $ cat > t.units <<'END'
   > m !
@@ -217,7 +217,7 @@ and whose in unit are both faulty.
   wrong argument: i
   division by zero
 
-tempC and tempF both ways, at their bounds and beyond, exactly.
+tempC, tempF and their inverses are exact, at their bounds and beyond.
 
   $ cat > t.units <<'END'
   > K !
@@ -275,7 +275,7 @@ tempC and tempF both ways, at their bounds and beyond, exactly.
   argument needed: tempC
   537|20
 
-Domains and ranges, open, closed and without an end, without units.
+Domains and ranges without units: open, closed and unbounded.
 
   $ cat > t.units <<'END'
   > m !
@@ -347,7 +347,7 @@ Domains and ranges, open, closed and without an end, without units.
   2 m
   not in range: away
 
-The same with units, whose numbers divide first.
+Domains and ranges with units. The value is divided by the unit before it is compared with the bounds.
 
   $ cat > t.units <<'END'
   > m !
@@ -440,7 +440,8 @@ The same with units, whose numbers divide first.
   1 m
   1 m
 
-In the inverse the name of the function stands for its value, and without an inverse there is none.
+In the inverse expression, the name of the function is its value. A function without an inverse expression has no
+inverse.
 
   $ cat > t.units <<'END'
   > m !
@@ -471,7 +472,7 @@ In the inverse the name of the function stands for its value, and without an inv
   8 m
   2 m
 
-Tables that rise, that fall, that are flat, and that turn, at their ends and outside.
+Tables that rise, fall, are flat, and turn, at their ends and outside.
 
   $ cat > t.units <<'END'
   > m !
@@ -568,7 +569,7 @@ Tables that rise, that fall, that are flat, and that turn, at their ends and out
   17
   17
 
-An alias takes its target, and an alias of an alias too. The name in a fault is that of the target.
+An alias calls its target, and so does an alias of an alias. A fault of the call names the target.
 
   $ cat > t.units <<'END'
   > K !
@@ -604,7 +605,8 @@ An alias takes its target, and an alias of an alias too. The name in a fault is 
   argument needed: degreeC
   no inverse: sq
 
-A call of rank 16 is made and one of rank 17 is not, whatever its argument; an alias has a rank of its own.
+A call of rank 16 is made, and one of rank 17 is refused after the faults of its argument. An alias and a table have a
+rank too, one above that of the function that they use.
 
   $ cat > t.units <<'END'
   > aa(x) x + 1 ; aa - 1
@@ -667,7 +669,7 @@ A call of rank 16 is made and one of rank 17 is not, whatever its argument; an a
   calls too deep: aq
   calls too deep: aq
 
-Powers and roots: exponents that are fractions, at their limits, of 0 and of negative numbers.
+Powers and roots: exponents that are fractions, exponents at their limits, and powers of 0 and of negative numbers.
 
   $ cat > t.units <<'END'
   > m !
@@ -779,7 +781,7 @@ Powers and roots: exponents that are fractions, at their limits, of 0 and of neg
   1267650600228229401496703205376 m^100
   1 m^4
 
-Exponents of names are fractions too: at their limits, with the fault of the number first.
+Exponents of names are fractions too, here at their limits. A fault of the number comes before one of an exponent.
 
   $ cat > t.units <<'END'
   > m !
@@ -874,7 +876,7 @@ Exponents of names are fractions too: at their limits, with the fault of the num
   1 m^1|2
   wrong argument: f
 
-Overflow in each kind of step, and none in one that fits once it is reduced.
+Each kind of step can overflow. A product or quotient that fits once it is reduced does not.
 
   $ cat > t.units <<'END'
   > big 170141183460469231731687303715884105727
@@ -969,7 +971,7 @@ Overflow in each kind of step, and none in one that fits once it is reduced.
   100000000000000000000000000000000000000
   overflow
 
-Members that are numbers, before and behind names, and products of a number with what has names.
+Factors and terms that are numbers, before and after names, and products of a number and a quantity with names.
 
   $ cat > t.units <<'END'
   > kg !
@@ -1057,7 +1059,7 @@ Members that are numbers, before and behind names, and products of a number with
   exponent out of range
   division by zero
 
-Words that are not known, functions that are none, and names that are defined twice.
+A unit, and a function that returns its argument.
 
   $ cat > t.units <<'END'
   > m !

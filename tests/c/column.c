@@ -14,7 +14,7 @@ typedef struct text {
     size_t length;
 } text;
 
-/* All bytes of a file, read into memory that grows. */
+/* Reads all bytes of a file into memory that grows. */
 static text read_all(FILE *file) {
     text whole = {malloc(1 << 16), 0};
     size_t room = 1 << 16, count;

@@ -119,13 +119,13 @@ static const call calls[] = {
     {"undo a drop", dropped, undo, UNITS_DONE, "12\n"},
 };
 
-/* Whether the table is as before a call. */
+/* Whether the table is the same as before a call. */
 static int is_as_before(const call *own) {
     if (own->foot == NULL) return convert("ft", "inch") == UNITS_CLOSED;
     return convert("ft", "inch") == UNITS_DONE && length == strlen(own->foot) && !memcmp(buffer, own->foot, length);
 }
 
-/* Tries a call with the allocation of this number refused. Returns whether the call ended as expected. */
+/* Makes a call and refuses the allocation of this number. Returns whether the call ended as expected. */
 static int try_call(const call *own, long n) {
     units_close(&table);
     own->prepare();
@@ -133,7 +133,7 @@ static int try_call(const call *own, long n) {
     uint32_t status = own->make();
     refused_number = 0;
     if (!was_refused) return status == own->status;
-    if (own->make == drop && status == own->status) return 1; /* a drop does without memory for a gap */
+    if (own->make == drop && status == own->status) return 1; /* a drop can do without memory for a gap */
     if (status == UNITS_NO_MEMORY && is_as_before(own) && own->make() == own->status) return 1;
     printf("%s: with allocation %ld refused it returned %u, or the table was not as before\n", own->name, n, status);
     return 0;

@@ -1,6 +1,6 @@
 // heap_test SEED ROUNDS: makes, grows, shrinks and frees random blocks in the heap of the static program, and refuses
 // some of its requests to the system. Each block keeps its bytes and overlaps no other, and a refusal changes nothing.
-// The heap takes at most three times the most bytes in use, however long it runs, and requests one huge page.
+// The heap takes at most three times the peak of the bytes in use, however long it runs, and requests one huge page.
 // Linked with --wrap=mmap,--wrap=munmap,--wrap=mremap,--wrap=madvise.
 #define _GNU_SOURCE
 #include <assert.h>
@@ -75,7 +75,7 @@ int __wrap_madvise(void *at, size_t size, int advice) {
     return is_refused() ? -1 : __real_madvise(at, size, advice);
 }
 
-// Sizes like those of a program: in most cases a few bytes, now and then vectors of up to 400 kB.
+// Sizes like those of a program: mostly a few bytes, and sometimes vectors of up to 400 kB.
 static size_t random_size(void) {
     uint64_t kind = random_below(100);
     if (kind < 70) return random_below(64);

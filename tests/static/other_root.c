@@ -1,5 +1,5 @@
 // other_root WORD..: runs the static program in the root folder ROOT, in the current folder. Checks that run outside
-// of that root run this as the program.
+// that root run this instead of the program.
 #include <limits.h>
 #include <stdio.h>
 #include <unistd.h>

@@ -1,4 +1,4 @@
-// Rules for accessibility.py. Each function returns a list of faults of the page as texts, or a state of it.
+// Rules for accessibility.py. Each function returns the faults of the page as a list of texts, or its state.
 (() => {
   const all = selector => [...document.querySelectorAll(selector)];
   const FIELDS = 'input:not([type=checkbox]), select, textarea';
@@ -19,7 +19,7 @@
     }
     return [255, 255, 255];
   };
-  // A color over its background, with the opacity of the element and of all around it.
+  // A color over its background, with the opacity of the element and of its ancestors.
   const visibleColor = (e, color) => {
     const back = background(e), front = channels(color);
     let opacity = front[3] ?? 1;
@@ -56,7 +56,7 @@
     return isSeen ? [] : [`${name(e)} ${outlineStyle} ${outlineWidth} ${ratio.toFixed(2)}`];
   };
 
-  // The smallest target that WCAG 2.2 AA allows has 24 by 24 pixels.
+  // The smallest target that WCAG 2.2 AA allows is 24 by 24 pixels.
   const smallTargets = () => all('button, input, select, summary').filter(isShown).filter(e => {
     const {width, height} = (e.closest('label') ?? e).getBoundingClientRect();
     return height < 24 || width < 24;
@@ -83,7 +83,7 @@
       ['img, svg', e => e.hasAttribute('alt') || e.hasAttribute('aria-label') || e.closest('[aria-hidden=true]')],
       ['body > *', e => e.matches('header, main, footer, script, noscript, [role=status], [role=alert]')],
       ['main > *', e => e.matches('[role=tabpanel]')],
-      ['[role=status], [role=alert], [role=log]', e => !e.hasAttribute('aria-live')], // each role is live by itself
+      ['[role=status], [role=alert], [role=log]', e => !e.hasAttribute('aria-live')], // each role is live by default
     ];
     return rules.flatMap(([selector, holds], i) => all(selector).filter(e => !holds(e)).map(e => `${i}: ${name(e)}`));
   };
@@ -106,7 +106,7 @@
 
   const excessWidth = () => document.documentElement.scrollWidth - document.documentElement.clientWidth;
 
-  // The elements that the tab key reaches, in its order.
+  // The elements that the tab key reaches, in tab order.
   const stops = () => all('a[href], button, input, select, textarea, summary, [tabindex]')
     .filter(e => e.tabIndex >= 0 && !e.disabled && isShown(e));
   const stopIndex = () => stops().indexOf(document.activeElement);

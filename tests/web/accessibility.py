@@ -1,6 +1,6 @@
-"""Checks the accessibility of the page in the browser: names, contrast, widths, headings, roles, the keyboard alone,
-and the announcements to a screen reader. Debian has no checker for this. The rules are those of WCAG 2.2 AA that can
-be computed.
+"""Checks the accessibility of the page in the browser: names, contrast, widths, headings, roles, use by keyboard alone,
+and the announcements to a screen reader. Debian has no checker for this. The rules are those of WCAG 2.2 AA that a
+program can test.
 """
 
 from __future__ import annotations
@@ -38,8 +38,8 @@ def unnamed_nodes(browser: Chromium) -> list[str]:
 
 
 def show(page: Page, view: str) -> None:
-    """Opens a view with all that it can show: details, a refused conversion, replies and faults of a session, a check
-    with faults."""
+    """Opens a view with all that it can show: details, a refused conversion, replies and faults of a session, and a
+    check with faults."""
     page.open(f"#from=5+gallons&to=miles&view={view}")
     page.browser.value("document.querySelectorAll('details').forEach(e => e.open = true)")
     if view == "session":
@@ -117,7 +117,7 @@ def check_lists(page: Page, equal: Equal) -> None:
 
 
 def check_announcements(page: Page, equal: Equal) -> None:
-    """Checks the announcements to a screen reader without a change of the focus."""
+    """Checks the announcements that a screen reader makes while the focus does not move."""
     page.open()
     for from_, to, part in (("10 m", "ft", "32.808399"), ("m", "s", "conformability"), ("nosuch", "m", "nosuch")):
         page.ask([(from_, to)])

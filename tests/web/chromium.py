@@ -63,7 +63,7 @@ class Chromium:
         return [event["params"] for event in self.events if event.get("method") == method]
 
     def open(self, url: str) -> None:
-        """Loads a page, after an empty one: a change of the fragment alone would load nothing."""
+        """Loads an empty page and then the page, since a change of only the fragment would load nothing."""
         for address in (EMPTY, url):
             self.events = [event for event in self.events if event.get("method") != "Page.loadEventFired"]
             self.call("Page.navigate", url=address)

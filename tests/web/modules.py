@@ -49,7 +49,7 @@ def number(value: int) -> bytes:
 
 
 def memory_limits(module: bytes) -> tuple[int, int, int, int]:
-    """The start and the end of the memory section, and its least and greatest number of pages."""
+    """The start and the end of the memory section, and its minimum and maximum number of pages."""
     at = 8
     while at < len(module):
         start, kind = at, module[at]
@@ -70,7 +70,7 @@ def with_memory_limit(module: bytes, pages: int) -> str:
 
 
 def check_memory(page: Any, native: Any, tally: Any) -> None:
-    """With any limit on memory, a run either ends as usual or is out of memory after the first part of its output."""
+    """With any limit on memory, a run either ends as usual or runs out of memory after the first part of its output."""
     page.open()
     page.browser.value("localStorage.clear()")
     page.open()

@@ -6,7 +6,7 @@ import json
 from typing import Any
 
 # Enters each question as if it were typed, waits until the page is settled, and returns [the reply as in a terminal,
-# the text of the answer, the milliseconds until the answer].
+# the text of the answer, the time to the answer in milliseconds].
 ASK = """(async (questions) => {
   const get = id => document.getElementById(id);
   get('printed').open = true;
@@ -78,7 +78,7 @@ class Page:
         self.browser.value(f"new Promise(done => setTimeout(done, {milliseconds}))")
 
     def wait_for(self, expression: str) -> bool:
-        """Waits until an expression holds, at most 10 seconds."""
+        """Waits until an expression is true, for at most 10 seconds."""
         return self.browser.value(f"""(async () => {{
           for (let i = 0; i < 1000 && !({expression}); i++) await new Promise(done => setTimeout(done, 10));
           return Boolean({expression});
@@ -103,12 +103,12 @@ class Page:
         return out + (f"{prompt} " if prompt.startswith("You ") else ""), err
 
     def type_text(self, text: str) -> None:
-        """Replaces the shown file by a typed text."""
+        """Replaces the shown file with a typed text."""
         self.browser.value("(() => { const t = document.getElementById('text'); t.focus(); t.select(); })()")
         self.browser.type(text)
 
     def replace_text(self, text: str) -> None:
-        """Replaces the shown file by a typed text, and waits for its check."""
+        """Replaces the shown file with a typed text, and waits for its check."""
         self.type_text(text)
         self.wait(500)
 

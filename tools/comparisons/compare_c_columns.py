@@ -1,6 +1,6 @@
 #!/usr/bin/env python3
-"""Converts random columns by units_convert_column from C and by the program's --column. The rows have to be the same,
-byte for byte, and so has the status, which says whether a cell is an error.
+"""Converts random columns with units_convert_column from C and with the program's --column. The rows have to be the
+same, byte for byte, and so does the status, which says whether a cell is an error.
 
     tools/comparisons/compare_c_columns.py [--numbers N] [--seed S] [--definitions FILE] [--units FOLDER]
 
@@ -81,7 +81,7 @@ def random_number(rng: random.Random) -> str:
 
 
 def quote(rng: random.Random, field: str) -> str:
-    """Return a field of a record, now and then with quotes that it does not need."""
+    """Return a field of a record, sometimes with needless quotes."""
     if any(byte in field for byte in ',"\r\n') or rng.random() < 0.05:
         return '"' + field.replace('"', '""') + '"'
     return field

@@ -51,7 +51,7 @@ def names_in(files: dict[bytes, bytes]) -> List[str]:
 
 
 def expression(rng: random.Random, names: List[str], depth: int = 3) -> str:
-    """Return a random expression, now and then one with a fault."""
+    """Return a random expression, sometimes with a fault."""
     kind = rng.random()
     if depth == 0 or kind < 0.35:
         return rng.choice(names)
@@ -138,7 +138,7 @@ class Session:
 
 
 def result_of(act: Callable[[], object]) -> str:
-    """Return an answer of the package, or its exception by name and text."""
+    """Return an answer of the package, or the name and the text of its exception."""
     try:
         return repr(act())
     except UnitsError as fault:

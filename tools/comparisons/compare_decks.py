@@ -3,15 +3,14 @@
 
     tools/comparisons/compare_decks.py [DECKS] [SEED]
 
-makes DECKS sets of small files (300 by default) from the SEED (1 by default),
-with includes, blocks, variables, faulty lines and continuations, has the program of
-crates/test_decks load one, edit it and answer after each edit, and compares each answer with that
-of lists which are gone through whole. It prints the first differences and a line with the counts,
-and ends with status 1 if there is a difference.
+Makes DECKS sets of small files (300 by default) from SEED (1 by default), with includes, blocks, variables, faulty
+lines and continuations. The program of crates/test_decks loads one, edits it and answers calls after each edit. Each
+answer is compared with that of plain lists, which are searched in full. Prints the first differences and a line with
+the counts. The status is 1 if there is a difference.
 
     tools/comparisons/compare_decks.py --answer < CALLS
 
-answers calls by the lists, with the files of the current folder.
+Answers calls with the lists and the files of the current folder.
 """
 
 import os
@@ -38,7 +37,7 @@ def without_order(answer):
 
 
 def compare(r, folder):
-    """The calls on a set of files, and the places at which the program gives other answers."""
+    """The calls on a set of files, and the answers of the program that differ, with their places."""
     os.chdir(folder)
     for name in ("dir", "sub", "sub/dir"):
         os.makedirs(name, exist_ok=True)

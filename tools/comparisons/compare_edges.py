@@ -4,12 +4,12 @@
     tools/comparisons/compare_edges.py [CALLS] [SEED]
 
 The program of crates/test_decks answers CALLS calls (10,000 by default) over a few nodes from SEED (1 by default).
-Each answer is compared with that of a list that is searched whole. Prints the first differences and a line with the
+Each answer is compared with that of a list that is searched in full. Prints the first differences and a line with the
 counts. The status is 1 if there is a difference.
 
     tools/comparisons/compare_edges.py --answer < CALLS
 
-Answers calls by the list. The users of a key are in the order of their numbers.
+Answers calls with the list. The users of a key are sorted by number.
 """
 
 import random

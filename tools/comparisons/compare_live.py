@@ -14,7 +14,7 @@ Queries each name of a file, in a random order, and compares the answers.
 
     tools/comparisons/compare_live.py --answer < CALLS
 
-Answers calls, edits among them, by recursion, with the files of the current folder.
+Answers calls, including edits, by recursion, with the files of the current folder.
 
 Decks are those of plain_decks.py, and values those of plain_tables.py. Each query follows every path from its names to
 find faults and reachable names; in large tables it visits each name once.

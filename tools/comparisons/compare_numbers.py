@@ -58,7 +58,7 @@ def new_answer(n, d):
 
 
 def sum_answer(x, y):
-    """Adds over the least common multiple, which has to be in range with both numerators and their sum."""
+    """Adds over the least common multiple. It, both numerators and their sum have to be in range."""
     multiple = math.lcm(x.denominator, y.denominator)
     left = x.numerator * (multiple // x.denominator)
     right = y.numerator * (multiple // y.denominator)
@@ -133,7 +133,7 @@ def numeral_answer(text):
         return "too long"
     if coefficient == 0:
         return "0"
-    # The coefficient has no zero at its end, so past these powers of ten it is out of range.
+    # The coefficient has no trailing zero, so beyond these powers of ten it is out of range.
     power = exponent - len(places) + len(digits) - len(digits.rstrip(b"0"))
     return answer(coefficient * Fraction(10) ** power) if -80 <= power <= 39 else "overflow"
 

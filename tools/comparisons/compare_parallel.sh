@@ -1,5 +1,5 @@
 #!/usr/bin/env bash
-# Converts a column in blocks by GNU parallel, as docs/COLUMNS.md shows, and compares the bytes with those of one run.
+# Converts a column in blocks with GNU parallel, as docs/COLUMNS.md shows, and compares the bytes with those of one run.
 #
 #     tools/comparisons/compare_parallel.sh [ROWS]
 #

@@ -68,7 +68,7 @@ class Reports:
             return str(fault)
 
     def function_fault(self, name):
-        """The first fault of the values of its units."""
+        """The first fault in the values of the units of a function."""
         function = self.live.callable(name)
         if isinstance(function, Points):
             function.unit(self.live, None)

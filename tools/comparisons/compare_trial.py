@@ -3,11 +3,11 @@
 
     tools/comparisons/compare_trial.py [N..]
 
-runs each trial of N edits (1, 2, 3, 7, 100 and 20,000 by default) twice and compares the line that the program writes.
+Runs each trial of N edits (1, 2, 3, 7, 100 and 20,000 by default) twice and compares the line that the program writes.
 
     tools/comparisons/compare_trial.py --answer N..
 
-writes the lines of the model.
+Writes the lines of the model.
 
 The model has a definition for each name in a dict, and follows each name to the one in its definition. If a name gets a
 different definition, the values of the name and of all names that lead to it are dropped; these are the names with

@@ -3,9 +3,9 @@
 
     tools/comparisons/compare_values.py [TABLES] [SEED]
 
-evaluates each query of tests/values.t with fractions and dicts of exponents, and compares the result with the answer in
+Evaluates each query of tests/values.t with fractions and dicts of exponents, and compares the result with the answer in
 the transcript. Then it makes TABLES random tables of definitions (none by default) and expressions from SEED (1 by
-default), asks a session of `units` for each expression, and compares each answer. It prints the differences and a line
+default), asks a session of `units` for each expression, and compares each answer. Prints the differences and a line
 with the counts. The status is 1 if there is a difference.
 """
 

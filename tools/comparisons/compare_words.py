@@ -3,11 +3,11 @@
 
     tools/comparisons/compare_words.py [LISTS] [SEED]
 
-makes LISTS random lists of words (20000 by default) from the SEED (1 by default), lets the real clap read them, through
-tools/comparisons/words_by_clap.rs, which it builds with Debian's package librust-clap-dev, and runs the built program
-on each. The status and both streams have to be those that follow from clap's fields; if the output does not follow from
-the words alone, the program has to accept them. It prints how many runs had each ending and the first differences, and
-ends with status 1 if there is a difference.
+Makes LISTS random lists of words (20,000 by default) from SEED (1 by default). The real clap reads them through
+tools/comparisons/words_by_clap.rs, which is built with Debian's package librust-clap-dev, and the built program runs
+with each. The status and both streams have to be those that follow from clap's fields; if the output depends on more
+than the words, the program has to accept them. Prints how many runs had each ending and the first differences. The
+status is 1 if there is a difference.
 """
 
 import os
@@ -27,7 +27,7 @@ TOOLS = Path(__file__).resolve().parents[1]
 REGISTRY = Path("/usr/share/cargo/registry")
 SHOWN = 5  # how many differences are printed
 USAGE = (2, b"", b"units: usage: units [options] [FROM [TO]]\n")
-TAKEN = "taken"  # the words are accepted, and the output does not follow from them alone
+TAKEN = "taken"  # the words are accepted, and the output depends on more than the words
 INPUT = [["1", "2"], ["3", "4", "5"]]  # the records on standard input
 UNITS = ["m", "in", "ft", "yd"]
 VALUES = dict(zip(UNITS, map(Fraction, ["1", "0.0254", "0.3048", "0.9144"])))

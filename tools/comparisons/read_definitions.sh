@@ -1,5 +1,5 @@
 #!/usr/bin/env bash
-# Has the program of crates/test_values read the definitions of GNU units, and prints each line that it refuses.
+# Reads the definitions of GNU units with the program of crates/test_values, and prints each line that it refuses.
 #   tools/comparisons/read_definitions.sh [FILE]
 # FILE is that of Debian's package units by default. For the definitions of GNU units 2.22, the status is 1 if the
 # refused lines are not those below; with any other file the script only prints them.

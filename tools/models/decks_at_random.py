@@ -24,7 +24,7 @@ KEYS = ["a", "b", "c_1", "k", "k-", "f()", "g()", "ab()", "!unitlist a", "!unitl
 
 
 def random_line(r, open_ends):
-    """A line; in most cases a closing line closes the innermost block."""
+    """A random line. A closing line usually closes the innermost block."""
     kind = r.choices(["define", "faulty", "open", "close", "set", "other", "leaf"], [40, 8, 14, 18, 8, 8, 4])[0]
     if kind == "close" and open_ends and r.randrange(6):
         return "!" + open_ends.pop()

@@ -75,7 +75,7 @@ def edge(r):
 
 
 def pair(r, other):
-    """Two fractions that fit. The second may lead from the first to an edge, as `other` computes it."""
+    """Two fractions that fit. The second may be the one that `other` computes from the first and an edge."""
     while True:
         x = fraction(r)
         y = r.choice([fraction, lambda r: near(r, x), lambda r: other(x, edge(r))])(r)
@@ -107,7 +107,7 @@ def rooted(r):
 
 
 def power(r):
-    """A fraction and an exponent whose power is near the limit of the range."""
+    """A fraction and an exponent that give a power near the limit of the range."""
     k = r.choice([2**31 - 1, -(2**31), r.randrange(-(2**31), 2**31), r.randrange(-130, 131)])
     if r.randrange(4) == 0:
         return r.choice([Fraction(0), Fraction(1), Fraction(-1), Fraction(1, 2)]), k

@@ -10,7 +10,7 @@ LARGE = 100  # in a table with more entries, each name is visited once
 
 
 class Expression(Reader):
-    """An expression, with the kind of place of each of its words."""
+    """An expression, with the kind of use of each of its words."""
 
     def __init__(self, text, binder=None):
         super().__init__(text.replace("**", "^"), binder)
@@ -275,7 +275,7 @@ class Live(Table):
         return result
 
     def after(self, entries):
-        """The table of other entries, in which the names that the change affects are no longer settled."""
+        """The table with these entries instead, in which the names that the change affects are no longer settled."""
         keys = self.entries.keys() | entries.keys()
         live = Live(entries)
         live.settled = self.settled - self.affected({k for k in keys if self.entries.get(k) != entries.get(k)})

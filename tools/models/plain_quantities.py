@@ -24,7 +24,7 @@ def fitting(x):
 
 
 def added(x, y):
-    """The sum over the least common multiple, which has to fit with both numerators and their sum."""
+    """The sum over the least common multiple. It, both numerators and their sum have to fit."""
     multiple = math.lcm(x.denominator, y.denominator)
     left = x.numerator * (multiple // x.denominator)
     right = y.numerator * (multiple // y.denominator)

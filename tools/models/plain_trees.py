@@ -1,4 +1,4 @@
-"""Plain rules for expressions: which tokens are refused, and the tree of the others.
+"""Plain rules for expressions: which tokens are refused, and the trees of the others.
 
 The tokens before a token decide whether it is allowed. Trees are built by splitting the tokens at the operators that
 bind least.
@@ -130,7 +130,7 @@ def power_tree(tokens, binder):
 
 
 def numeral_text(text):
-    """The digits without final zeros, and the power of ten."""
+    """The digits without trailing zeros, and the power of ten."""
     _, digits, power = Decimal(text).normalize().as_tuple()
     return "".join(map(str, digits)) + (f"e{power}" if power else "")
 

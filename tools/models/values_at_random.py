@@ -66,7 +66,7 @@ class Made:
         return f"{self.r.choice(self.units)}({self.sum(depth - 1, binder)})"
 
     def argument(self, name, way, depth, binder=None):
-        """An argument of a function or its inverse: in most cases a number in its unit, which may be a bound."""
+        """An argument of a function or its inverse: usually a number in its unit, which may be a bound."""
         if self.one_in(4):
             return self.sum(depth, binder)
         number = f"({self.r.choice(BOUNDS)}{self.r.choice(ADDITIONS)})" if self.one_in(2) else self.number()
