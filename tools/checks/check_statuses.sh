@@ -123,6 +123,26 @@ for name in . gone/s.units /proc/s.units /dev/full; do
     expect 5 $'\t* 72\n\t/ 0.013888889\n' '' "printf '2 yd\\nin\\n:save $name\\nm\\n\\n' | units -q -f first.units"
 done
 
+# Names of files that do not exist, and of a folder and a name below a file, which cannot be read.
+mkdir files files/inner
+printf 'm !' > files/plain
+for name in '' files/none files/none/none; do
+    expect 3 '' "units: no file: $name"$'\n' "units -f '$name' m m"
+done
+for name in files files/plain/none; do expect 4 '' '' "units -f $name m m"; done
+
+# A failed save leaves nothing.
+for name in files/inner files/inner/ files/none/new files/plain/new $'files/new\xff' files/; do
+    expect 5 $'files\nfiles/inner\nfiles/plain\nm !' '' "printf ':save $name\\n' | units -q -f files/plain
+        status=\$?; find files | LC_ALL=C sort; cat files/plain; exit \$status"
+done
+
+# A new file is saved, and saved again under another name. A file that another run left there stays.
+printf 'left by another run' > files/.units-save-0
+expect 0 $'m !\ng 3 m\nh 4 m\n.units-save-0\ninner\nnew\nplain\nleft by another run' '' \
+    "printf ':define g 3 m\\n:save files/new\\n:define h 4 m\\n:save ./files/new\\n' | units -q -f files/plain \
+    && cat files/new && LC_ALL=C ls -A files && cat files/.units-save-0"
+
 # A save through links writes the file that they lead to, and keeps the links.
 printf 'm !\n' > kept.units
 ln -s kept.units near.units

@@ -1,5 +1,6 @@
-//! Tests of `units_io`: readers, writers and files of the system that fail, a sink in memory that fails, the messages
-//! of faults, and seeds. A crate with tests is proved twice, so they are not in `units_io`.
+//! Tests of `units_io`: readers and writers of the system that fail, a sink in memory that fails, the messages of faults,
+//! and seeds. A crate with tests is proved twice, so they are not in `units_io`. `tools/checks/check_statuses.sh` tests
+//! the files of the system.
 #![tactic(auto)]
 
 #[cfg(test)]
