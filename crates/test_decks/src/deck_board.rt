@@ -7,7 +7,9 @@ use deck::{Deck, DeckFault, Settings, Splice};
 use def_entry::Keys;
 use std::alloc::{AllocError, Global};
 use std::mem;
-use test_lines::{Answers, CallFault, key_in, put_answers, read_change, split_at_space};
+use test_lines::{
+    AnswerWriter, Answers, CallFault, key_in, put_answers, read_change, split_at_space,
+};
 use units_io::{Files, Text, Vars};
 
 // The state between calls: the files to load, the deck, a snapshot of an earlier state of it, the inverse of the last
@@ -35,21 +37,11 @@ pub(crate) fn deck_answers<F: Files + Drop>(
         inverse: None,
         settings,
     };
-    let answers = answers_on(alloc, &mut board, lines);
+    let mut out = AnswerWriter::new(alloc);
+    put_answers(alloc, &mut board, lines, &mut out);
     // The process ends next, so the decks need not be freed.
     mem::forget(board);
-    answers
-}
-
-// Returns the answers to calls.
-fn answers_on<F: Files + Drop>(
-    alloc: Global,
-    board: &mut Board<F>,
-    lines: &[u8],
-) -> Result<Vec<u8>, AllocError> {
-    let mut out = Vec::new(alloc);
-    put_answers(alloc, board, lines, &mut out)?;
-    Ok(out)
+    out.into_text()
 }
 
 // Returns the settings before the first call.
@@ -64,13 +56,14 @@ impl<F: Files + Drop> Answers for Board<F> {
         &mut self,
         alloc: Global,
         line: &[u8],
-        out: &mut Vec<u8>,
+        out: &mut AnswerWriter,
     ) -> Result<(), CallFault> {
         let Some((call, argument)) = read_call(line) else {
             return Err(CallFault::BadCall);
         };
         self.put_call(alloc, call, argument, out)?;
-        Ok(out.extend_from_slice(b"\n")?)
+        out.put(b"\n");
+        Ok(())
     }
 }
 
@@ -81,9 +74,9 @@ impl<F: Files + Drop> Board<F> {
         alloc: Global,
         call: Call,
         argument: &[u8],
-        out: &mut Vec<u8>,
+        out: &mut AnswerWriter,
     ) -> Result<(), CallFault> {
-        let answered = match call {
+        match call {
             Call::Splice => return self.put_splice(alloc, argument, out),
             Call::Setting(setting) => self.put_setting(alloc, setting, argument, out),
             Call::Load(load) => self.put_load(alloc, load, argument, out),
@@ -92,8 +85,8 @@ impl<F: Files + Drop> Board<F> {
             Call::Back => self.put_back(alloc, out),
             Call::Query(query) => self.put_query(alloc, query, out),
             Call::KeyQuery(query) => self.put_key_query(alloc, query, argument, out),
-        };
-        Ok(answered?)
+        }
+        Ok(())
     }
 
     // Changes the settings for the following loads and edits.
@@ -102,8 +95,14 @@ impl<F: Files + Drop> Board<F> {
         alloc: Global,
         setting: Setting,
         argument: &[u8],
-        out: &mut Vec<u8>,
-    ) -> Result<(), AllocError> {
+        out: &mut AnswerWriter,
+    ) {
+        out.note(self.set(alloc, setting, argument));
+        out.put(b"ok");
+    }
+
+    // Changes the settings for the following loads and edits.
+    fn set(&mut self, alloc: Global, setting: Setting, argument: &[u8]) -> Result<(), AllocError> {
         match setting {
             Setting::Locale => self.settings.locale = Text::from_bytes(alloc, argument)?,
             Setting::Variable => {
@@ -111,58 +110,55 @@ impl<F: Files + Drop> Board<F> {
                 set_variable(alloc, &mut self.settings.vars, name, value)?;
             }
         }
-        out.extend_from_slice(b"ok")
+        Ok(())
     }
 
     // Loads a deck, or appends why the load failed.
-    fn put_load(
-        &mut self,
-        alloc: Global,
-        load: Load,
-        name: &[u8],
-        out: &mut Vec<u8>,
-    ) -> Result<(), AllocError> {
-        let settings = self.settings.copy(alloc)?;
-        let loaded = match load {
-            Load::File => Deck::load(alloc, &mut self.files, name, settings),
-            Load::Text => deck_of_text(alloc, &mut self.files, name, settings),
-        };
-        match loaded {
+    fn put_load(&mut self, alloc: Global, load: Load, name: &[u8], out: &mut AnswerWriter) {
+        match self.load(alloc, load, name) {
             Ok(deck) => {
                 self.deck = Some(deck);
-                out.extend_from_slice(b"ok")
+                out.put(b"ok");
             }
             Err(fault) => put_fault(alloc, out, fault),
         }
     }
 
+    // Loads a deck.
+    fn load(&mut self, alloc: Global, load: Load, name: &[u8]) -> Result<Deck, DeckFault> {
+        let settings = self.settings.copy(alloc)?;
+        match load {
+            Load::File => Deck::load(alloc, &mut self.files, name, settings),
+            Load::Text => deck_of_text(alloc, &mut self.files, name, settings),
+        }
+    }
+
     // Stores the deck for comparisons.
-    fn put_snapshot(&mut self, alloc: Global, out: &mut Vec<u8>) -> Result<(), AllocError> {
+    fn put_snapshot(&mut self, alloc: Global, out: &mut AnswerWriter) {
         let Some(deck) = &self.deck else {
             return put_lack_of_deck(out);
         };
-        self.snapshot = Some(deck.snapshot(alloc)?);
-        out.extend_from_slice(b"ok")
+        match deck.snapshot(alloc) {
+            Ok(snapshot) => {
+                self.snapshot = Some(snapshot);
+                out.put(b"ok");
+            }
+            Err(AllocError) => out.leave_out(),
+        }
     }
 
     // Makes an edit.
-    fn put_edit(
-        &mut self,
-        alloc: Global,
-        edit: Edit,
-        argument: &[u8],
-        out: &mut Vec<u8>,
-    ) -> Result<(), AllocError> {
+    fn put_edit(&mut self, alloc: Global, edit: Edit, argument: &[u8], out: &mut AnswerWriter) {
         let Some(deck) = &mut self.deck else {
             return put_lack_of_deck(out);
         };
         let outcome = match edit {
             Edit::Define => deck.define(alloc, argument),
             Edit::Append => deck.append(alloc, &mut self.files, argument),
-            Edit::Switch => deck.switch(alloc, self.settings.copy(alloc)?),
+            Edit::Switch => switch_to(alloc, deck, &self.settings),
             Edit::DropLast => return put_drop(alloc, deck, argument, out),
         };
-        put_outcome(alloc, out, outcome)
+        put_outcome(alloc, out, outcome);
     }
 
     // Reads a splice, and makes it if it is allowed.
@@ -170,11 +166,12 @@ impl<F: Files + Drop> Board<F> {
         &mut self,
         alloc: Global,
         argument: &[u8],
-        out: &mut Vec<u8>,
+        out: &mut AnswerWriter,
     ) -> Result<(), CallFault> {
         let change = self.read_splice(alloc, argument)?;
         self.inverse = None;
-        Ok(self.put_spliced(alloc, change, out)?)
+        self.put_spliced(alloc, change, out);
+        Ok(())
     }
 
     // Reads a splice under the settings for edits.
@@ -190,32 +187,28 @@ impl<F: Files + Drop> Board<F> {
     }
 
     // Undoes the last splice.
-    fn put_back(&mut self, alloc: Global, out: &mut Vec<u8>) -> Result<(), AllocError> {
+    fn put_back(&mut self, alloc: Global, out: &mut AnswerWriter) {
         match self.inverse.take() {
             Some(change) => self.put_spliced(alloc, change, out),
             None if self.deck.is_none() => put_lack_of_deck(out),
-            None => out.extend_from_slice(b"no splice"),
+            None => out.put(b"no splice"),
         }
     }
 
     // Makes a splice if it is allowed, and appends the keys that it changed.
-    fn put_spliced(
-        &mut self,
-        alloc: Global,
-        change: Splice,
-        out: &mut Vec<u8>,
-    ) -> Result<(), AllocError> {
+    fn put_spliced(&mut self, alloc: Global, change: Splice, out: &mut AnswerWriter) {
         let Some(deck) = &mut self.deck else {
             return put_lack_of_deck(out);
         };
-        match make_splice(alloc, deck, change, &mut self.inverse)? {
-            Some(keys) => put_changes(alloc, out, &keys),
-            None => out.extend_from_slice(b"no such splice"),
+        match make_splice(alloc, deck, change, &mut self.inverse) {
+            Ok(Some(keys)) => put_changes(out, &keys),
+            Ok(None) => out.put(b"no such splice"),
+            Err(AllocError) => out.leave_out(),
         }
     }
 
     // Appends the answer to a query about the deck.
-    fn put_query(&self, alloc: Global, query: Query, out: &mut Vec<u8>) -> Result<(), AllocError> {
+    fn put_query(&self, alloc: Global, query: Query, out: &mut AnswerWriter) {
         match &self.deck {
             Some(deck) => put_query(alloc, deck, &self.snapshot, query, out),
             None => put_lack_of_deck(out),
@@ -223,13 +216,7 @@ impl<F: Files + Drop> Board<F> {
     }
 
     // Appends the answer to a query about the key that `text` names.
-    fn put_key_query(
-        &self,
-        alloc: Global,
-        query: KeyQuery,
-        text: &[u8],
-        out: &mut Vec<u8>,
-    ) -> Result<(), AllocError> {
+    fn put_key_query(&self, alloc: Global, query: KeyQuery, text: &[u8], out: &mut AnswerWriter) {
         match &self.deck {
             Some(deck) => put_key_query(alloc, deck, query, text, out),
             None => put_lack_of_deck(out),
@@ -238,8 +225,8 @@ impl<F: Files + Drop> Board<F> {
 }
 
 // Appends that there is no deck.
-fn put_lack_of_deck(out: &mut Vec<u8>) -> Result<(), AllocError> {
-    out.extend_from_slice(b"no deck")
+fn put_lack_of_deck(out: &mut AnswerWriter) {
+    out.put(b"no deck");
 }
 
 // Gives a variable a value.
@@ -284,27 +271,25 @@ fn make_splice(
     }
 }
 
+// Makes settings take effect.
+fn switch_to(alloc: Global, deck: &mut Deck, settings: &Settings) -> Result<Keys, DeckFault> {
+    let settings = settings.copy(alloc)?;
+    deck.switch(alloc, settings)
+}
+
 // Drops the last line of the key that `text` names.
-fn put_drop(
-    alloc: Global,
-    deck: &mut Deck,
-    text: &[u8],
-    out: &mut Vec<u8>,
-) -> Result<(), AllocError> {
-    match key_in(alloc, text)? {
-        Some(key) => put_outcome(alloc, out, deck.drop_last(alloc, &key)),
-        None => out.extend_from_slice(b"not a key"),
+fn put_drop(alloc: Global, deck: &mut Deck, text: &[u8], out: &mut AnswerWriter) {
+    match key_in(alloc, text) {
+        Ok(Some(key)) => put_outcome(alloc, out, deck.drop_last(alloc, &key)),
+        Ok(None) => out.put(b"not a key"),
+        Err(AllocError) => out.leave_out(),
     }
 }
 
 // Appends the keys that an edit changed, or why it was refused.
-fn put_outcome(
-    alloc: Global,
-    out: &mut Vec<u8>,
-    outcome: Result<Keys, DeckFault>,
-) -> Result<(), AllocError> {
+fn put_outcome(alloc: Global, out: &mut AnswerWriter, outcome: Result<Keys, DeckFault>) {
     match outcome {
-        Ok(keys) => put_changes(alloc, out, &keys),
+        Ok(keys) => put_changes(out, &keys),
         Err(fault) => put_fault(alloc, out, fault),
     }
 }

@@ -5,7 +5,7 @@ use crate::deck_texts::{put_keys, put_lines, put_settings, put_texts};
 use deck::Deck;
 use def_entry::{Key, Kind};
 use std::alloc::{AllocError, Global};
-use test_lines::{key_in, put_count};
+use test_lines::{AnswerWriter, key_in};
 
 // Appends the answer to a query about the deck.
 pub(crate) fn put_query(
@@ -13,10 +13,10 @@ pub(crate) fn put_query(
     deck: &Deck,
     snapshot: &Option<Deck>,
     query: Query,
-    out: &mut Vec<u8>,
-) -> Result<(), AllocError> {
+    out: &mut AnswerWriter,
+) {
     match query {
-        Query::Count => put_counts(alloc, deck, out),
+        Query::Count => put_counts(deck, out),
         Query::Keys => put_all_keys(alloc, deck, out),
         Query::Lines => put_all_lines(alloc, deck, out),
         Query::Notices => put_texts(out, deck.notices()),
@@ -33,41 +33,36 @@ pub(crate) fn put_key_query(
     deck: &Deck,
     query: KeyQuery,
     text: &[u8],
-    out: &mut Vec<u8>,
-) -> Result<(), AllocError> {
-    match key_in(alloc, text)? {
-        Some(key) => put_key_answer(alloc, deck, query, &key, out),
-        None => out.extend_from_slice(b"not a key"),
+    out: &mut AnswerWriter,
+) {
+    match key_in(alloc, text) {
+        Ok(Some(key)) => put_key_answer(deck, query, &key, out),
+        Ok(None) => out.put(b"not a key"),
+        Err(AllocError) => out.leave_out(),
     }
 }
 
 // Appends the answer to a query about a key.
-fn put_key_answer(
-    alloc: Global,
-    deck: &Deck,
-    query: KeyQuery,
-    key: &Key,
-    out: &mut Vec<u8>,
-) -> Result<(), AllocError> {
+fn put_key_answer(deck: &Deck, query: KeyQuery, key: &Key, out: &mut AnswerWriter) {
     match query {
         KeyQuery::Entry => put_entry(deck, key, out),
-        KeyQuery::Place => put_place(alloc, deck, key, out),
+        KeyQuery::Place => put_place(deck, key, out),
     }
 }
 
 // Appends the text of the entry of a key, or `none`.
-fn put_entry(deck: &Deck, key: &Key, out: &mut Vec<u8>) -> Result<(), AllocError> {
+fn put_entry(deck: &Deck, key: &Key, out: &mut AnswerWriter) {
     match deck.entry(key.kind, key.name.as_bytes()) {
-        Some(entry) => out.extend_from_slice(entry.text()),
-        None => out.extend_from_slice(b"none"),
+        Some(entry) => out.put(entry.text()),
+        None => out.put(b"none"),
     }
 }
 
 // Appends the place of the last line in force of a key, or `none`.
-fn put_place(alloc: Global, deck: &Deck, key: &Key, out: &mut Vec<u8>) -> Result<(), AllocError> {
+fn put_place(deck: &Deck, key: &Key, out: &mut AnswerWriter) {
     match deck.last_place(key) {
-        Some(place) => put_count(alloc, out, place, b""),
-        None => out.extend_from_slice(b"none"),
+        Some(place) => out.put_number(place),
+        None => out.put(b"none"),
     }
 }
 
@@ -80,62 +75,76 @@ const KINDS: &[(Kind, &[u8])] = &[
 ];
 
 // Appends the number of keys of each kind, and the numbers of lines and notices.
-fn put_counts(alloc: Global, deck: &Deck, out: &mut Vec<u8>) -> Result<(), AllocError> {
+fn put_counts(deck: &Deck, out: &mut AnswerWriter) {
     for (kind, name) in KINDS {
-        put_count(alloc, out, deck.key_count(*kind), name)?;
+        out.put_count(deck.key_count(*kind), name);
     }
-    put_count(alloc, out, deck.lines().len(), b" lines, ")?;
-    put_count(alloc, out, deck.notices().len(), b" notices")
+    out.put_count(deck.lines().len(), b" lines, ");
+    out.put_count(deck.notices().len(), b" notices");
 }
 
 // Appends all keys.
-fn put_all_keys(alloc: Global, deck: &Deck, out: &mut Vec<u8>) -> Result<(), AllocError> {
-    put_keys(alloc, out, &deck.keys(alloc)?)
+fn put_all_keys(alloc: Global, deck: &Deck, out: &mut AnswerWriter) {
+    match deck.keys(alloc) {
+        Ok(keys) => put_keys(out, &keys),
+        Err(AllocError) => out.leave_out(),
+    }
 }
 
 // Appends the messages.
-fn put_messages(alloc: Global, deck: &Deck, out: &mut Vec<u8>) -> Result<(), AllocError> {
-    put_texts(out, &deck.messages(alloc)?)
+fn put_messages(alloc: Global, deck: &Deck, out: &mut AnswerWriter) {
+    match deck.messages(alloc) {
+        Ok(messages) => put_texts(out, &messages),
+        Err(AllocError) => out.leave_out(),
+    }
 }
 
 // Appends the texts of the lines that define keys.
-fn put_defining_lines(alloc: Global, deck: &Deck, out: &mut Vec<u8>) -> Result<(), AllocError> {
-    put_texts(out, &deck.defining_line_texts(alloc)?)
+fn put_defining_lines(alloc: Global, deck: &Deck, out: &mut AnswerWriter) {
+    match deck.defining_line_texts(alloc) {
+        Ok(texts) => put_texts(out, &texts),
+        Err(AllocError) => out.leave_out(),
+    }
 }
 
 // Appends all lines with their marks.
-fn put_all_lines(alloc: Global, deck: &Deck, out: &mut Vec<u8>) -> Result<(), AllocError> {
-    let lines = deck.lines_from(alloc, 0, deck.lines().len())?;
-    put_lines(alloc, out, &lines)
+fn put_all_lines(alloc: Global, deck: &Deck, out: &mut AnswerWriter) {
+    match deck.lines_from(alloc, 0, deck.lines().len()) {
+        Ok(lines) => put_lines(out, &lines),
+        Err(AllocError) => out.leave_out(),
+    }
 }
 
 // Appends whether the snapshot, if there is one, is equal to the deck.
-fn put_comparison(
-    alloc: Global,
-    deck: &Deck,
-    snapshot: &Option<Deck>,
-    out: &mut Vec<u8>,
-) -> Result<(), AllocError> {
+fn put_comparison(alloc: Global, deck: &Deck, snapshot: &Option<Deck>, out: &mut AnswerWriter) {
     let Some(other) = snapshot else {
-        return out.extend_from_slice(b"no snapshot");
+        return out.put(b"no snapshot");
     };
-    let is_equal = state_text(alloc, deck)? == state_text(alloc, other)?;
-    out.extend_from_slice(if is_equal { b"equal" } else { b"different" })
+    match is_equal(alloc, deck, other) {
+        Ok(true) => out.put(b"equal"),
+        Ok(false) => out.put(b"different"),
+        Err(AllocError) => out.leave_out(),
+    }
+}
+
+// Returns whether decks are equal.
+fn is_equal(alloc: Global, deck: &Deck, other: &Deck) -> Result<bool, AllocError> {
+    Ok(state_text(alloc, deck)? == state_text(alloc, other)?)
 }
 
 // Returns the lines, notices and settings of a deck. None of them has a line feed, so decks with the same text are
 // equal.
 fn state_text(alloc: Global, deck: &Deck) -> Result<Vec<u8>, AllocError> {
-    let mut text = Vec::new(alloc);
-    put_state(alloc, deck, &mut text)?;
-    Ok(text)
+    let mut text = AnswerWriter::new(alloc);
+    put_state(alloc, deck, &mut text);
+    text.into_text()
 }
 
 // Appends the lines, notices and settings of a deck, separated by line feeds.
-fn put_state(alloc: Global, deck: &Deck, out: &mut Vec<u8>) -> Result<(), AllocError> {
-    put_all_lines(alloc, deck, out)?;
-    out.push(b'\n')?;
-    put_texts(out, deck.notices())?;
-    out.push(b'\n')?;
-    put_settings(out, deck.settings())
+fn put_state(alloc: Global, deck: &Deck, out: &mut AnswerWriter) {
+    put_all_lines(alloc, deck, out);
+    out.put(b"\n");
+    put_texts(out, deck.notices());
+    out.put(b"\n");
+    put_settings(out, deck.settings());
 }

@@ -1,10 +1,10 @@
 //! Linked edges that calls operate on.
 
 use crate::marking::Marking;
-use edge_links::Links;
+use edge_links::{Links, Nodes};
 use std::alloc::{AllocError, Global};
 use test_lines::{
-    Answers, CallFault, meaning_of, put_answers, put_count, put_line, read_number, split_at_space,
+    AnswerWriter, Answers, CallFault, meaning_of, put_answers, read_number, split_at_space,
 };
 
 // A call, without its arguments. It is refused if a node does not exist or there is no room for an edge.
@@ -50,9 +50,9 @@ struct Board {
 // Returns the answers to calls.
 pub(crate) fn edge_answers(alloc: Global, lines: &[u8]) -> Result<Vec<u8>, AllocError> {
     let links = Links::new(alloc);
-    let mut out = Vec::new(alloc);
-    put_answers(alloc, &mut Board { links }, lines, &mut out)?;
-    Ok(out)
+    let mut out = AnswerWriter::new(alloc);
+    put_answers(alloc, &mut Board { links }, lines, &mut out);
+    out.into_text()
 }
 
 impl Answers for Board {
@@ -60,28 +60,30 @@ impl Answers for Board {
         &mut self,
         alloc: Global,
         line: &[u8],
-        out: &mut Vec<u8>,
+        out: &mut AnswerWriter,
     ) -> Result<(), CallFault> {
         let (word, arguments) = split_at_space(line);
         match meaning_of(WORDS, word) {
-            Some(Call::Node) => Ok(put_count(alloc, out, self.links.add_node(alloc)?, b"\n")?),
-            Some(Call::Spare) => Ok(put_count(alloc, out, self.links.spare(), b"\n")?),
-            Some(Call::Link) => self.put_link(arguments, out),
+            Some(Call::Node) => out.put_count(self.links.add_node(alloc)?, b"\n"),
+            Some(Call::Spare) => out.put_count(self.links.spare(), b"\n"),
+            Some(Call::Link) => return self.put_link(arguments, out),
             Some(Call::Number(call)) => {
                 let number = read_number(arguments)?;
-                Ok(self.put_number_call(alloc, call, number, out)?)
+                self.put_number_call(alloc, call, number, out);
             }
-            None => Err(CallFault::BadCall),
+            None => return Err(CallFault::BadCall),
         }
+        Ok(())
     }
 }
 
 impl Board {
     // Reads two nodes and links them.
-    fn put_link(&mut self, nodes: &[u8], out: &mut Vec<u8>) -> Result<(), CallFault> {
+    fn put_link(&mut self, nodes: &[u8], out: &mut AnswerWriter) -> Result<(), CallFault> {
         let (user, key) = split_at_space(nodes);
         let answer = self.link(read_number(user)?, read_number(key)?);
-        Ok(put_line(out, answer)?)
+        out.put_line(answer);
+        Ok(())
     }
 
     // Appends the answer to a call on a number.
@@ -90,15 +92,15 @@ impl Board {
         alloc: Global,
         call: NumberCall,
         number: usize,
-        out: &mut Vec<u8>,
-    ) -> Result<(), AllocError> {
+        out: &mut AnswerWriter,
+    ) {
         match call {
             NumberCall::Reserve => {
-                self.links.reserve_edges(alloc, number)?;
-                put_line(out, b"ok")
+                out.note(self.links.reserve_edges(alloc, number));
+                out.put_line(b"ok");
             }
-            NumberCall::Unsettle => self.put_unsettled(alloc, number, out),
-            NumberCall::Users => self.put_users(alloc, number, out),
+            NumberCall::Unsettle => put_outcome(self.unsettle(alloc, number), out),
+            NumberCall::Users => put_outcome(self.users(alloc, number), out),
         }
     }
 
@@ -112,40 +114,44 @@ impl Board {
         b"ok"
     }
 
-    // Unsettles a node, if it exists, and appends the nodes that were cleared.
-    fn put_unsettled(
-        &mut self,
-        alloc: Global,
-        key: usize,
-        out: &mut Vec<u8>,
-    ) -> Result<(), AllocError> {
+    // Unsettles a node, if it exists, and returns the nodes that were cleared.
+    fn unsettle(&mut self, alloc: Global, key: usize) -> Result<Option<Nodes>, AllocError> {
         let nodes = self.links.node_count();
         if key >= nodes {
-            return put_line(out, b"refused");
+            return Ok(None);
         }
         let mut marking = Marking::on(alloc, nodes)?;
         self.links.unsettle(key, &mut marking);
-        put_nodes(alloc, out, marking.cleared(alloc)?.as_slice())
+        Ok(Some(marking.cleared(alloc)?))
     }
 
-    // Appends the users of the edges to a node, if it exists.
-    fn put_users(&self, alloc: Global, key: usize, out: &mut Vec<u8>) -> Result<(), AllocError> {
+    // Returns the users of the edges to a node, if it exists.
+    fn users(&self, alloc: Global, key: usize) -> Result<Option<Nodes>, AllocError> {
         if key >= self.links.node_count() {
-            return put_line(out, b"refused");
+            return Ok(None);
         }
-        put_nodes(alloc, out, self.links.edges_into(alloc, key)?.as_slice())
+        Ok(Some(self.links.edges_into(alloc, key)?))
+    }
+}
+
+// Appends the numbers of nodes, or that the call for them was refused.
+fn put_outcome(outcome: Result<Option<Nodes>, AllocError>, out: &mut AnswerWriter) {
+    match outcome {
+        Ok(Some(nodes)) => put_nodes(nodes.as_slice(), out),
+        Ok(None) => out.put_line(b"refused"),
+        Err(AllocError) => out.leave_out(),
     }
 }
 
 // Appends the numbers of nodes, or `none`.
-fn put_nodes(alloc: Global, out: &mut Vec<u8>, nodes: &[usize]) -> Result<(), AllocError> {
+fn put_nodes(nodes: &[usize], out: &mut AnswerWriter) {
     let Some((first, rest)) = nodes.split_first() else {
-        return put_line(out, b"none");
+        return out.put_line(b"none");
     };
-    put_count(alloc, out, *first, b"")?;
+    out.put_number(*first);
     for node in rest {
-        out.extend_from_slice(b" ")?;
-        put_count(alloc, out, *node, b"")?;
+        out.put(b" ");
+        out.put_number(*node);
     }
-    put_line(out, b"")
+    out.put(b"\n");
 }

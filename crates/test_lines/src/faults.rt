@@ -1,21 +1,22 @@
 //! The texts of the faults of lines and expressions.
 
+use crate::answer_writer::AnswerWriter;
 use def_entry::{EntryFault, entry_fault_text, parse_fault_text};
 use expr_tree::ParseFault;
-use std::alloc::{AllocError, Global};
+use std::alloc::Global;
 
-/// Returns why a line defines no key.
-pub fn entry_refusal(alloc: Global, fault: EntryFault) -> Result<Vec<u8>, AllocError> {
+/// Appends why a line defines no key.
+pub fn put_entry_refusal(alloc: Global, fault: EntryFault, out: &mut AnswerWriter) {
     match fault {
-        EntryFault::OutOfMemory | EntryFault::Parse(ParseFault::OutOfMemory) => Err(AllocError),
-        fault => Ok(entry_fault_text(alloc, &fault)?.into_bytes()),
+        EntryFault::OutOfMemory | EntryFault::Parse(ParseFault::OutOfMemory) => out.leave_out(),
+        fault => out.put_text(entry_fault_text(alloc, &fault)),
     }
 }
 
-/// Returns why a text is not an expression.
-pub fn parse_refusal(alloc: Global, fault: ParseFault) -> Result<Vec<u8>, AllocError> {
+/// Appends why a text is not an expression.
+pub fn put_parse_refusal(alloc: Global, fault: ParseFault, out: &mut AnswerWriter) {
     match fault {
-        ParseFault::OutOfMemory => Err(AllocError),
-        fault => Ok(parse_fault_text(alloc, fault)?.into_bytes()),
+        ParseFault::OutOfMemory => out.leave_out(),
+        fault => out.put_text(parse_fault_text(alloc, fault)),
     }
 }

@@ -1,4 +1,4 @@
-//! The arguments of calls, and the parts of answers.
+//! The arguments of calls.
 
 use crate::fault::CallFault;
 use def_entry::{Key, KeyFault, cut_at, read_key};
@@ -26,21 +26,4 @@ pub fn key_in(alloc: Global, text: &[u8]) -> Result<Option<Key>, AllocError> {
         Err(KeyFault::NotKey) => Ok(None),
         Err(KeyFault::OutOfMemory) => Err(AllocError),
     }
-}
-
-/// Appends a text and a line feed.
-pub fn put_line(out: &mut Vec<u8>, text: &[u8]) -> Result<(), AllocError> {
-    out.extend_from_slice(text)?;
-    out.extend_from_slice(b"\n")
-}
-
-/// Appends a number and the text that follows it.
-pub fn put_count(
-    alloc: Global,
-    out: &mut Vec<u8>,
-    count: usize,
-    what: &[u8],
-) -> Result<(), AllocError> {
-    out.extend_from_slice(count.to_string(alloc)?.as_bytes())?;
-    out.extend_from_slice(what)
 }

@@ -6,7 +6,9 @@ use edit_history::History;
 use live_table::LiveTable;
 use std::alloc::{AllocError, Global};
 use std::sync::ledger::Ledger;
-use test_lines::{Answers, CallFault, key_in, meaning_of, put_answers, split_at_space};
+use test_lines::{
+    AnswerWriter, Answers, CallFault, key_in, meaning_of, put_answers, split_at_space,
+};
 use units_io::{Files, Steps};
 
 // A call, without its argument.
@@ -60,9 +62,10 @@ pub(crate) fn history_answers<F: Files + Drop, L: Ledger>(
         history,
         steps,
     };
-    let mut out = Vec::from_slice(alloc, b"ok\n")?;
-    put_answers(alloc, &mut board, calls, &mut out)?;
-    Ok(out)
+    let mut out = AnswerWriter::new(alloc);
+    out.put(b"ok\n");
+    put_answers(alloc, &mut board, calls, &mut out);
+    out.into_text()
 }
 
 impl<F: Files + Drop, L: Ledger> Answers for Board<F, L> {
@@ -74,14 +77,15 @@ impl<F: Files + Drop, L: Ledger> Answers for Board<F, L> {
         &mut self,
         alloc: Global,
         line: &[u8],
-        out: &mut Vec<u8>,
+        out: &mut AnswerWriter,
     ) -> Result<(), CallFault> {
         let (word, argument) = split_at_space(line);
         match meaning_of(WORDS, word) {
-            Some(call) => self.put_call(alloc, call, argument, out)?,
-            None => out.extend_from_slice(b"no call")?,
+            Some(call) => self.put_call(alloc, call, argument, out),
+            None => out.put(b"no call"),
         }
-        Ok(out.extend_from_slice(b"\n")?)
+        out.put(b"\n");
+        Ok(())
     }
 }
 
@@ -89,13 +93,7 @@ impl<F: Files + Drop, L: Ledger> Board<F, L> {
     ghost use Rattle.edit_history.specs.Histories.{IsHistoryOf};
 
     // Appends the answer to a call.
-    fn put_call(
-        &mut self,
-        alloc: Global,
-        call: Call,
-        argument: &[u8],
-        out: &mut Vec<u8>,
-    ) -> Result<(), AllocError>
+    fn put_call(&mut self, alloc: Global, call: Call, argument: &[u8], out: &mut AnswerWriter)
         requires { IsHistoryOf self.old.history self.old.live.deck }
         ensures { IsHistoryOf self.new.history self.new.live.deck }
     {
@@ -109,56 +107,65 @@ impl<F: Files + Drop, L: Ledger> Board<F, L> {
     }
 
     // Makes an edit.
-    fn put_edit(
-        &mut self,
-        alloc: Global,
-        edit: Edit,
-        argument: &[u8],
-        out: &mut Vec<u8>,
-    ) -> Result<(), AllocError>
+    fn put_edit(&mut self, alloc: Global, edit: Edit, argument: &[u8], out: &mut AnswerWriter)
         requires { IsHistoryOf self.old.history self.old.live.deck }
         ensures { IsHistoryOf self.new.history self.new.live.deck }
     {
-        let live = &mut self.live;
         let made = match edit {
-            Edit::Define => self.history.define(alloc, live, argument),
+            Edit::Define => self.history.define(alloc, &mut self.live, argument),
             Edit::DropLast => return self.put_drop(alloc, argument, out),
-            Edit::Switch => {
-                let settings = settings_of(alloc, argument)?;
-                self.history.switch(alloc, live, settings)
-            }
-            Edit::Append => self.history.append(alloc, live, &mut self.files, argument),
+            Edit::Switch => return self.put_switch(alloc, argument, out),
+            Edit::Append => self
+                .history
+                .append(alloc, &mut self.live, &mut self.files, argument),
         };
-        out.extend_from_slice(edit_text(&made))
+        out.put(edit_text(&made));
+    }
+
+    // Puts a locale in force.
+    fn put_switch(&mut self, alloc: Global, locale: &[u8], out: &mut AnswerWriter)
+        requires { IsHistoryOf self.old.history self.old.live.deck }
+        ensures { IsHistoryOf self.new.history self.new.live.deck }
+    {
+        match settings_of(alloc, locale) {
+            Ok(settings) => {
+                let made = self.history.switch(alloc, &mut self.live, settings);
+                out.put(edit_text(&made));
+            }
+            Err(AllocError) => out.leave_out(),
+        }
     }
 
     // Drops the last line of the key that `text` names.
-    fn put_drop(&mut self, alloc: Global, text: &[u8], out: &mut Vec<u8>) -> Result<(), AllocError>
+    fn put_drop(&mut self, alloc: Global, text: &[u8], out: &mut AnswerWriter)
         requires { IsHistoryOf self.old.history self.old.live.deck }
         ensures { IsHistoryOf self.new.history self.new.live.deck }
     {
-        let Some(key) = key_in(alloc, text)? else {
-            return out.extend_from_slice(b"no key");
-        };
-        let made = self.history.drop_last(alloc, &mut self.live, &key);
-        out.extend_from_slice(edit_text(&made))
+        match key_in(alloc, text) {
+            Ok(Some(key)) => {
+                let made = self.history.drop_last(alloc, &mut self.live, &key);
+                out.put(edit_text(&made));
+            }
+            Ok(None) => out.put(b"no key"),
+            Err(AllocError) => out.leave_out(),
+        }
     }
 
     // Undoes the last edit.
-    fn put_undone(&mut self, alloc: Global, out: &mut Vec<u8>) -> Result<(), AllocError>
+    fn put_undone(&mut self, alloc: Global, out: &mut AnswerWriter)
         requires { IsHistoryOf self.old.history self.old.live.deck }
         ensures { IsHistoryOf self.new.history self.new.live.deck }
     {
         let undone = self.history.undo(alloc, &mut self.live);
-        out.extend_from_slice(undone_text(undone))
+        out.put(undone_text(undone));
     }
 
     // Redoes the last edit that was undone.
-    fn put_redone(&mut self, alloc: Global, out: &mut Vec<u8>) -> Result<(), AllocError>
+    fn put_redone(&mut self, alloc: Global, out: &mut AnswerWriter)
         requires { IsHistoryOf self.old.history self.old.live.deck }
         ensures { IsHistoryOf self.new.history self.new.live.deck }
     {
         let redone = self.history.redo(alloc, &mut self.live);
-        out.extend_from_slice(undone_text(redone))
+        out.put(undone_text(redone));
     }
 }

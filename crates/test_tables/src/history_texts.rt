@@ -6,8 +6,9 @@ use edit_history::HistoryFault;
 use expr_tree::{ParseFault, Tree, parse_expr};
 use live_table::{LiveTable, QueryFault};
 use quantity::Style;
-use std::alloc::{AllocError, Global};
+use std::alloc::Global;
 use std::sync::ledger::Ledger;
+use test_lines::AnswerWriter;
 use units_io::Steps;
 
 // Appends the value of an expression, or a message that there is none.
@@ -16,14 +17,14 @@ pub(crate) fn put_value<L: Ledger>(
     live: &mut LiveTable,
     text: &[u8],
     steps: &mut Steps<L>,
-    out: &mut Vec<u8>,
-) -> Result<(), AllocError>
+    out: &mut AnswerWriter,
+)
     ensures { live.new.deck ≡ live.old.deck }
 {
     match parse_expr(alloc, text, None) {
         Ok(tree) => put_value_of(alloc, live, &tree, steps, out),
-        Err(ParseFault::OutOfMemory) => Err(AllocError),
-        Err(_) => out.extend_from_slice(b"no expression"),
+        Err(ParseFault::OutOfMemory) => out.leave_out(),
+        Err(_) => out.put(b"no expression"),
     }
 }
 
@@ -33,27 +34,26 @@ fn put_value_of<L: Ledger>(
     live: &mut LiveTable,
     tree: &Tree,
     steps: &mut Steps<L>,
-    out: &mut Vec<u8>,
-) -> Result<(), AllocError>
+    out: &mut AnswerWriter,
+)
     ensures { live.new.deck ≡ live.old.deck }
 {
     match &live.value(alloc, tree, steps) {
-        Ok(value) => value.put(alloc, out, Style::Exact),
-        Err(QueryFault::OutOfMemory) => Err(AllocError),
-        Err(_) => out.extend_from_slice(b"no value"),
+        Ok(value) => out.put_text(value.show(alloc, Style::Exact)),
+        Err(QueryFault::OutOfMemory) => out.leave_out(),
+        Err(_) => out.put(b"no value"),
     }
 }
 
 // Appends the lines of the deck, each followed by `;`.
-pub(crate) fn put_lines(live: &LiveTable, out: &mut Vec<u8>) -> Result<(), AllocError> {
+pub(crate) fn put_lines(live: &LiveTable, out: &mut AnswerWriter) {
     let lines = live.deck().lines();
     for place in 0..lines.len() {
         if let Some(line) = lines.get(place) {
-            out.extend_from_slice(line.text.as_bytes())?;
-            out.extend_from_slice(b";")?;
+            out.put(line.text.as_bytes());
+            out.put(b";");
         }
     }
-    Ok(())
 }
 
 // Returns whether an edit was undone or redone.

@@ -9,7 +9,7 @@ use reply::{FromValue, Options, Reply, convert_reply, definition_reply, from_val
 use std::alloc::{AllocError, Global};
 use std::sync::ledger::Ledger;
 use survey::{check_report, conformable_reply, search_report};
-use test_lines::{Answers, CallFault, meaning_of, put_answers, put_line, split_at_space};
+use test_lines::{AnswerWriter, Answers, CallFault, meaning_of, put_answers, split_at_space};
 use units_io::Steps;
 
 // A call, without its argument.
@@ -64,9 +64,10 @@ pub(crate) fn reply_answers<L: Ledger>(
         options,
         steps,
     };
-    let mut out = Vec::from_slice(alloc, b"ok\n")?;
-    put_answers(alloc, &mut board, calls, &mut out)?;
-    Ok(out)
+    let mut out = AnswerWriter::new(alloc);
+    out.put(b"ok\n");
+    put_answers(alloc, &mut board, calls, &mut out);
+    out.into_text()
 }
 
 impl<L: Ledger> Answers for Board<L> {
@@ -78,7 +79,7 @@ impl<L: Ledger> Answers for Board<L> {
         &mut self,
         alloc: Global,
         line: &[u8],
-        out: &mut Vec<u8>,
+        out: &mut AnswerWriter,
     ) -> Result<(), CallFault> {
         let (word, argument) = split_at_space(line);
         let Some(call) = meaning_of(WORDS, word) else {
@@ -95,12 +96,12 @@ impl<L: Ledger> Board<L> {
         alloc: Global,
         call: Call,
         argument: &[u8],
-        out: &mut Vec<u8>,
+        out: &mut AnswerWriter,
     ) -> Result<(), CallFault>
         requires { AreReplyOptionsPrintable self.old.options }
         ensures { AreReplyOptionsPrintable self.new.options }
     {
-        let answered = match call {
+        match call {
             Call::Options => return self.put_options(argument, out),
             Call::Convert => return self.put_conversion(alloc, argument, out),
             Call::Check if argument.is_empty() => self.put_check(alloc, out),
@@ -109,12 +110,12 @@ impl<L: Ledger> Board<L> {
             Call::Conformable => self.put_conformable(alloc, argument, out),
             Call::Search => self.put_search(alloc, argument, out),
             Call::Value => self.put_value(alloc, argument, out),
-        };
-        Ok(answered?)
+        }
+        Ok(())
     }
 
     // Sets the options for the following calls.
-    fn put_options(&mut self, words: &[u8], out: &mut Vec<u8>) -> Result<(), CallFault>
+    fn put_options(&mut self, words: &[u8], out: &mut AnswerWriter) -> Result<(), CallFault>
         requires { AreReplyOptionsPrintable self.old.options }
         ensures { AreReplyOptionsPrintable self.new.options }
     {
@@ -122,7 +123,8 @@ impl<L: Ledger> Board<L> {
             return Err(CallFault::BadCall);
         };
         self.options = options;
-        Ok(put_line(out, b"ok")?)
+        out.put_line(b"ok");
+        Ok(())
     }
 
     // Appends the reply to a conversion.
@@ -130,7 +132,7 @@ impl<L: Ledger> Board<L> {
         &mut self,
         alloc: Global,
         text: &[u8],
-        out: &mut Vec<u8>,
+        out: &mut AnswerWriter,
     ) -> Result<(), CallFault>
         requires { AreReplyOptionsPrintable self.old.options }
         ensures { AreReplyOptionsPrintable self.new.options }
@@ -139,80 +141,81 @@ impl<L: Ledger> Board<L> {
             return Err(CallFault::BadCall);
         };
         let (live, steps) = (&mut self.live, &mut self.steps);
-        let reply = convert_reply(alloc, live, &self.options, from, to, steps)?;
-        Ok(put_reply(out, &reply)?)
+        let reply = convert_reply(alloc, live, &self.options, from, to, steps);
+        put_reply(reply, out);
+        Ok(())
     }
 
     // Appends the reply to a definition.
-    fn put_definition(
-        &mut self,
-        alloc: Global,
-        from: &[u8],
-        out: &mut Vec<u8>,
-    ) -> Result<(), AllocError>
+    fn put_definition(&mut self, alloc: Global, from: &[u8], out: &mut AnswerWriter)
         requires { AreReplyOptionsPrintable self.old.options }
         ensures { AreReplyOptionsPrintable self.new.options }
     {
         let (live, steps) = (&mut self.live, &mut self.steps);
-        let reply = definition_reply(alloc, live, &self.options, from, steps)?;
-        put_reply(out, &reply)
+        let reply = definition_reply(alloc, live, &self.options, from, steps);
+        put_reply(reply, out);
     }
 
     // Appends the report on the units that conform.
-    fn put_conformable(
-        &mut self,
-        alloc: Global,
-        from: &[u8],
-        out: &mut Vec<u8>,
-    ) -> Result<(), AllocError>
+    fn put_conformable(&mut self, alloc: Global, from: &[u8], out: &mut AnswerWriter)
         requires { AreReplyOptionsPrintable self.old.options }
         ensures { AreReplyOptionsPrintable self.new.options }
     {
         let (live, steps) = (&mut self.live, &mut self.steps);
-        let reply = conformable_reply(alloc, live, &self.options, from, steps)?;
-        put_reply(out, &reply)
+        let reply = conformable_reply(alloc, live, &self.options, from, steps);
+        put_reply(reply, out);
     }
 
     // Appends the report on a search.
-    fn put_search(&self, alloc: Global, text: &[u8], out: &mut Vec<u8>) -> Result<(), AllocError> {
-        out.extend_from_slice(search_report(alloc, &self.live, text)?.as_bytes())
+    fn put_search(&self, alloc: Global, text: &[u8], out: &mut AnswerWriter) {
+        out.put_text(search_report(alloc, &self.live, text));
     }
 
     // Appends the report of the check.
-    fn put_check(&mut self, alloc: Global, out: &mut Vec<u8>) -> Result<(), AllocError>
+    fn put_check(&mut self, alloc: Global, out: &mut AnswerWriter)
         requires { AreReplyOptionsPrintable self.old.options }
         ensures { AreReplyOptionsPrintable self.new.options }
     {
-        let report = check_report(alloc, &mut self.live, &self.options, &mut self.steps)?;
-        out.extend_from_slice(report.as_bytes())
+        let report = check_report(alloc, &mut self.live, &self.options, &mut self.steps);
+        out.put_text(report);
     }
 
     // Appends the exact value of a text, or its fault as a refused line.
-    fn put_value(&mut self, alloc: Global, from: &[u8], out: &mut Vec<u8>) -> Result<(), AllocError>
+    fn put_value(&mut self, alloc: Global, from: &[u8], out: &mut AnswerWriter)
         requires { AreReplyOptionsPrintable self.old.options }
         ensures { AreReplyOptionsPrintable self.new.options }
     {
         let (live, steps) = (&mut self.live, &mut self.steps);
-        match &from_value(alloc, live, &self.options, from, steps)? {
-            FromValue::Good(value) => put_line(out, value.show(alloc, Style::Exact)?.as_bytes()),
-            FromValue::Bad(text) => put_refused(out, text.as_bytes()),
+        match from_value(alloc, live, &self.options, from, steps) {
+            Ok(value) => put_from_value(alloc, &value, out),
+            Err(AllocError) => out.leave_out(),
         }
     }
 }
 
 // Appends a reply, followed by a line that marks it if it is refused.
-fn put_reply(out: &mut Vec<u8>, reply: &Reply) -> Result<(), AllocError> {
-    out.extend_from_slice(reply.text.as_bytes())?;
-    if reply.refused {
-        out.extend_from_slice(b"refused\n")?;
+fn put_reply(reply: Result<Reply, AllocError>, out: &mut AnswerWriter) {
+    match reply {
+        Ok(reply) => {
+            out.put(reply.text.as_bytes());
+            if reply.refused {
+                out.put(b"refused\n");
+            }
+        }
+        Err(AllocError) => out.leave_out(),
     }
-    Ok(())
 }
 
-// Appends a fault as a refused line.
-fn put_refused(out: &mut Vec<u8>, fault: &[u8]) -> Result<(), AllocError> {
-    out.extend_from_slice(fault)?;
-    out.extend_from_slice(b"\nrefused\n")
+// Appends an exact value, or its fault as a refused line.
+fn put_from_value(alloc: Global, value: &FromValue, out: &mut AnswerWriter) {
+    match value {
+        FromValue::Good(value) => out.put_text(value.show(alloc, Style::Exact)),
+        FromValue::Bad(fault) => {
+            out.put(fault.as_bytes());
+            out.put(b"\nrefused");
+        }
+    }
+    out.put(b"\n");
 }
 
 // Splits a text at the first ` to ` into the parts before and after it.

@@ -8,7 +8,9 @@ use live_table::LiveTable;
 use std::alloc::{AllocError, Global};
 use std::mem;
 use std::sync::ledger::Ledger;
-use test_lines::{Answers, CallFault, key_in, put_answers, read_change, split_at_space};
+use test_lines::{
+    AnswerWriter, Answers, CallFault, key_in, put_answers, read_change, split_at_space,
+};
 use units_io::{Files, Steps};
 
 // The state between calls: the files to append, the table, the splice that undoes the last one, if there is one, and
@@ -35,21 +37,12 @@ pub(crate) fn value_answers<F: Files + Drop, L: Ledger>(
         back: None,
         steps,
     };
-    let answers = answers_on(alloc, &mut board, calls);
+    let mut out = AnswerWriter::new(alloc);
+    out.put(b"ok\n");
+    put_answers(alloc, &mut board, calls, &mut out);
     // The process ends next, and freeing the table costs more than its last query.
     mem::forget(board);
-    answers
-}
-
-// Returns the answers to a load and to the calls.
-fn answers_on<F: Files + Drop, L: Ledger>(
-    alloc: Global,
-    board: &mut Board<F, L>,
-    calls: &[u8],
-) -> Result<Vec<u8>, AllocError> {
-    let mut out = Vec::from_slice(alloc, b"ok\n")?;
-    put_answers(alloc, board, calls, &mut out)?;
-    Ok(out)
+    out.into_text()
 }
 
 impl<F: Files + Drop, L: Ledger> Answers for Board<F, L> {
@@ -57,14 +50,15 @@ impl<F: Files + Drop, L: Ledger> Answers for Board<F, L> {
         &mut self,
         alloc: Global,
         line: &[u8],
-        out: &mut Vec<u8>,
+        out: &mut AnswerWriter,
     ) -> Result<(), CallFault> {
         let (word, argument) = split_at_space(line);
         let Some(call) = value_call(word) else {
             return Err(CallFault::BadCall);
         };
         self.put_call(alloc, call, argument, out)?;
-        Ok(out.extend_from_slice(b"\n")?)
+        out.put(b"\n");
+        Ok(())
     }
 }
 
@@ -75,9 +69,9 @@ impl<F: Files + Drop, L: Ledger> Board<F, L> {
         alloc: Global,
         call: ValueCall,
         argument: &[u8],
-        out: &mut Vec<u8>,
+        out: &mut AnswerWriter,
     ) -> Result<(), CallFault> {
-        let answered = match call {
+        match call {
             ValueCall::Splice => return self.put_splice(alloc, argument, out),
             ValueCall::Value => put_value(alloc, &mut self.live, argument, &mut self.steps, out),
             ValueCall::Unapply => put_inverse(
@@ -88,27 +82,21 @@ impl<F: Files + Drop, L: Ledger> Board<F, L> {
                 out,
             ),
             ValueCall::Settle => self.put_settled(alloc, out),
-            ValueCall::Counts => put_counts(alloc, &self.live, out),
+            ValueCall::Counts => put_counts(&self.live, out),
             ValueCall::Edit(edit) => self.put_edit(alloc, edit, argument, out),
             ValueCall::Back => self.put_back(alloc, out),
-        };
-        Ok(answered?)
+        }
+        Ok(())
     }
 
     // Queries every name.
-    fn put_settled(&mut self, alloc: Global, out: &mut Vec<u8>) -> Result<(), AllocError> {
-        self.live.settle_all(alloc, &mut self.steps)?;
-        out.extend_from_slice(b"ok")
+    fn put_settled(&mut self, alloc: Global, out: &mut AnswerWriter) {
+        out.note(self.live.settle_all(alloc, &mut self.steps));
+        out.put(b"ok");
     }
 
     // Makes an edit.
-    fn put_edit(
-        &mut self,
-        alloc: Global,
-        edit: Edit,
-        argument: &[u8],
-        out: &mut Vec<u8>,
-    ) -> Result<(), AllocError> {
+    fn put_edit(&mut self, alloc: Global, edit: Edit, argument: &[u8], out: &mut AnswerWriter) {
         match edit {
             Edit::DropLast => put_drop(alloc, &mut self.live, argument, out),
             Edit::Define => put_made(self.live.define(alloc, argument), out),
@@ -122,18 +110,27 @@ impl<F: Files + Drop, L: Ledger> Board<F, L> {
         &mut self,
         alloc: Global,
         argument: &[u8],
-        out: &mut Vec<u8>,
+        out: &mut AnswerWriter,
     ) -> Result<(), CallFault> {
         let splice = read_splice(alloc, argument, &self.live)?;
         self.back = None;
-        Ok(out.extend_from_slice(self.splice(alloc, splice)?)?)
+        self.put_spliced(alloc, splice, out);
+        Ok(())
     }
 
     // Undoes the last splice.
-    fn put_back(&mut self, alloc: Global, out: &mut Vec<u8>) -> Result<(), AllocError> {
+    fn put_back(&mut self, alloc: Global, out: &mut AnswerWriter) {
         match self.back.take() {
-            Some(splice) => out.extend_from_slice(self.splice(alloc, splice)?),
-            None => out.extend_from_slice(b"no splice"),
+            Some(splice) => self.put_spliced(alloc, splice, out),
+            None => out.put(b"no splice"),
+        }
+    }
+
+    // Makes a splice if it is allowed, and appends whether it was made.
+    fn put_spliced(&mut self, alloc: Global, splice: Splice, out: &mut AnswerWriter) {
+        match self.splice(alloc, splice) {
+            Ok(text) => out.put(text),
+            Err(AllocError) => out.leave_out(),
         }
     }
 
@@ -156,32 +153,25 @@ impl<F: Files + Drop, L: Ledger> Board<F, L> {
 }
 
 // Drops the last line of the key that `text` names.
-fn put_drop(
-    alloc: Global,
-    live: &mut LiveTable,
-    text: &[u8],
-    out: &mut Vec<u8>,
-) -> Result<(), AllocError> {
-    match key_in(alloc, text)? {
-        Some(key) => put_made(live.drop_last(alloc, &key), out),
-        None => out.extend_from_slice(b"not a key"),
+fn put_drop(alloc: Global, live: &mut LiveTable, text: &[u8], out: &mut AnswerWriter) {
+    match key_in(alloc, text) {
+        Ok(Some(key)) => put_made(live.drop_last(alloc, &key), out),
+        Ok(None) => out.put(b"not a key"),
+        Err(AllocError) => out.leave_out(),
     }
 }
 
 // Puts a locale in force.
-fn put_switch(
-    alloc: Global,
-    live: &mut LiveTable,
-    locale: &[u8],
-    out: &mut Vec<u8>,
-) -> Result<(), AllocError> {
-    let settings = settings_of(alloc, locale)?;
-    put_made(live.switch(alloc, settings), out)
+fn put_switch(alloc: Global, live: &mut LiveTable, locale: &[u8], out: &mut AnswerWriter) {
+    match settings_of(alloc, locale) {
+        Ok(settings) => put_made(live.switch(alloc, settings), out),
+        Err(AllocError) => out.leave_out(),
+    }
 }
 
 // Appends whether an edit was made.
-fn put_made(made: Result<(), DeckFault>, out: &mut Vec<u8>) -> Result<(), AllocError> {
-    out.extend_from_slice(edit_text(&made))
+fn put_made(made: Result<(), DeckFault>, out: &mut AnswerWriter) {
+    out.put(edit_text(&made));
 }
 
 // Reads a splice under the settings of the table.

@@ -11,9 +11,9 @@ use expr_tree::{Tree, parse_expr};
 use fault_texts::{put_name_fault, put_value_fault};
 use live_table::{LiveTable, QueryFault};
 use quantity::{Quantity, Style};
-use std::alloc::{AllocError, Global};
+use std::alloc::Global;
 use std::sync::ledger::Ledger;
-use test_lines::{parse_refusal, put_count, split_at_space};
+use test_lines::{AnswerWriter, put_parse_refusal, split_at_space};
 use units_io::Steps;
 
 // Appends the value of an expression.
@@ -22,11 +22,11 @@ pub(crate) fn put_value<L: Ledger>(
     live: &mut LiveTable,
     text: &[u8],
     steps: &mut Steps<L>,
-    out: &mut Vec<u8>,
-) -> Result<(), AllocError> {
+    out: &mut AnswerWriter,
+) {
     match parse_expr(alloc, text, None) {
         Ok(tree) => put_outcome(alloc, &live.value(alloc, &tree, steps), out),
-        Err(fault) => out.extend_from_slice(&parse_refusal(alloc, fault)?),
+        Err(fault) => put_parse_refusal(alloc, fault, out),
     }
 }
 
@@ -36,15 +36,15 @@ pub(crate) fn put_inverse<L: Ledger>(
     live: &mut LiveTable,
     text: &[u8],
     steps: &mut Steps<L>,
-    out: &mut Vec<u8>,
-) -> Result<(), AllocError> {
+    out: &mut AnswerWriter,
+) {
     let (name, text) = split_at_space(text);
     if live.deck().entry(Kind::Func, name).is_none() {
-        return out.extend_from_slice(b"no function");
+        return out.put(b"no function");
     }
     match parse_expr(alloc, text, None) {
         Ok(tree) => put_outcome(alloc, &inverse_at(alloc, live, name, &tree, steps), out),
-        Err(fault) => out.extend_from_slice(&parse_refusal(alloc, fault)?),
+        Err(fault) => put_parse_refusal(alloc, fault, out),
     }
 }
 
@@ -63,28 +63,26 @@ fn inverse_at<L: Ledger>(
 }
 
 // Appends a quantity, or the fault of a query.
-fn put_outcome(
-    alloc: Global,
-    outcome: &Result<Quantity, QueryFault>,
-    out: &mut Vec<u8>,
-) -> Result<(), AllocError> {
+fn put_outcome(alloc: Global, outcome: &Result<Quantity, QueryFault>, out: &mut AnswerWriter) {
     match outcome {
-        Ok(value) => value.put(alloc, out, Style::Exact),
-        Err(QueryFault::Name(fault)) => put_name_fault(out, fault),
-        Err(QueryFault::Value(fault)) => put_value_fault(alloc, out, fault, Style::Exact),
-        Err(QueryFault::OutOfMemory) => Err(AllocError),
+        Ok(value) => out.put_text(value.show(alloc, Style::Exact)),
+        Err(QueryFault::Name(fault)) => {
+            let written = put_name_fault(out.text_mut(), fault);
+            out.note(written);
+        }
+        Err(QueryFault::Value(fault)) => {
+            let written = put_value_fault(alloc, out.text_mut(), fault, Style::Exact);
+            out.note(written);
+        }
+        Err(QueryFault::OutOfMemory) => out.leave_out(),
     }
 }
 
 // Appends the number of names that are settled, the number that have an entry, and the number that were settled since
 // the table was created.
-pub(crate) fn put_counts(
-    alloc: Global,
-    live: &LiveTable,
-    out: &mut Vec<u8>,
-) -> Result<(), AllocError> {
+pub(crate) fn put_counts(live: &LiveTable, out: &mut AnswerWriter) {
     let counts = live.counts();
-    put_count(alloc, out, counts.settled, b" settled, ")?;
-    put_count(alloc, out, counts.names, b" names, ")?;
-    put_count(alloc, out, counts.reductions as usize, b" reductions")
+    out.put_count(counts.settled, b" settled, ");
+    out.put_count(counts.names, b" names, ");
+    out.put_count(counts.reductions as usize, b" reductions");
 }

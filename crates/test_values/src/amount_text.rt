@@ -1,42 +1,34 @@
 //! The texts of answers on quantities.
 
 use quantity::{Exponent, Quantity, QuantityFault, Style};
-use std::alloc::{AllocError, Global};
+use std::alloc::Global;
+use test_lines::AnswerWriter;
 
 // Appends `yes` or `no`.
-pub(crate) fn put_truth(holds: bool, out: &mut Vec<u8>) -> Result<(), AllocError> {
-    out.extend_from_slice(if holds { b"yes" } else { b"no" })
+pub(crate) fn put_truth(holds: bool, out: &mut AnswerWriter) {
+    out.put(if holds { b"yes" } else { b"no" });
 }
 
 // Appends the exact text of a quantity.
-pub(crate) fn put_quantity(
-    alloc: Global,
-    x: &Quantity,
-    out: &mut Vec<u8>,
-) -> Result<(), AllocError> {
-    out.extend_from_slice(x.show(alloc, Style::Exact)?.as_bytes())
+pub(crate) fn put_quantity(alloc: Global, x: &Quantity, out: &mut AnswerWriter) {
+    out.put_text(x.show(alloc, Style::Exact));
 }
 
 // Appends the text of an exponent, `n` or `n|d`.
-pub(crate) fn put_exponent(
-    alloc: Global,
-    exponent: &Exponent,
-    out: &mut Vec<u8>,
-) -> Result<(), AllocError> {
-    out.extend_from_slice(exponent.num.to_string(alloc)?.as_bytes())?;
-    if exponent.den == 1 {
-        return Ok(());
+pub(crate) fn put_exponent(exponent: &Exponent, out: &mut AnswerWriter) {
+    out.put_number(exponent.num);
+    if exponent.den != 1 {
+        out.put(b"|");
+        out.put_number(exponent.den);
     }
-    out.extend_from_slice(b"|")?;
-    out.extend_from_slice(exponent.den.to_string(alloc)?.as_bytes())
 }
 
 // Appends the exact result of a step, or its fault.
 pub(crate) fn put_result(
     alloc: Global,
     outcome: &Result<Quantity, QuantityFault>,
-    out: &mut Vec<u8>,
-) -> Result<(), AllocError> {
+    out: &mut AnswerWriter,
+) {
     match outcome {
         Ok(x) => put_quantity(alloc, x, out),
         Err(fault) => put_fault(alloc, fault, out),
@@ -44,25 +36,20 @@ pub(crate) fn put_result(
 }
 
 // Appends the fault of a step.
-fn put_fault(alloc: Global, fault: &QuantityFault, out: &mut Vec<u8>) -> Result<(), AllocError> {
+fn put_fault(alloc: Global, fault: &QuantityFault, out: &mut AnswerWriter) {
     match fault {
-        QuantityFault::Number(fault) => out.extend_from_slice(fault.text()),
+        QuantityFault::Number(fault) => out.put(fault.text()),
         QuantityFault::NotConformable(x, y) => put_unlike(alloc, x, y, out),
-        QuantityFault::ExponentNotNumber => out.extend_from_slice(b"exponent not a number"),
-        QuantityFault::ExponentRange => out.extend_from_slice(b"exponent out of range"),
-        QuantityFault::OutOfMemory => Err(AllocError),
+        QuantityFault::ExponentNotNumber => out.put(b"exponent not a number"),
+        QuantityFault::ExponentRange => out.put(b"exponent out of range"),
+        QuantityFault::OutOfMemory => out.leave_out(),
     }
 }
 
 // Appends that two quantities do not conform.
-fn put_unlike(
-    alloc: Global,
-    x: &Quantity,
-    y: &Quantity,
-    out: &mut Vec<u8>,
-) -> Result<(), AllocError> {
-    out.extend_from_slice(b"not conformable: ")?;
-    put_quantity(alloc, x, out)?;
-    out.extend_from_slice(b" and ")?;
-    put_quantity(alloc, y, out)
+fn put_unlike(alloc: Global, x: &Quantity, y: &Quantity, out: &mut AnswerWriter) {
+    out.put(b"not conformable: ");
+    put_quantity(alloc, x, out);
+    out.put(b" and ");
+    put_quantity(alloc, y, out);
 }

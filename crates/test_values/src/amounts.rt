@@ -8,13 +8,13 @@ use crate::reading::read_count;
 use crate::tables::put_reading;
 use quantity::{Quantity, QuantityFault, Style};
 use std::alloc::{AllocError, Global};
-use test_lines::{CallFault, split_at_space};
+use test_lines::{AnswerWriter, CallFault, split_at_space};
 
 // Appends the answer to a call: a word, a space and the arguments of the word, separated by `;`.
 pub(crate) fn put_amount_answer(
     alloc: Global,
     line: &[u8],
-    out: &mut Vec<u8>,
+    out: &mut AnswerWriter,
 ) -> Result<(), CallFault> {
     let (word, arguments) = split_at_space(line);
     match amount_call(word) {
@@ -29,9 +29,10 @@ pub(crate) fn put_amount_answer(
 }
 
 // Appends whether a quantity is a number.
-fn put_kind(alloc: Global, text: &[u8], out: &mut Vec<u8>) -> Result<(), CallFault> {
+fn put_kind(alloc: Global, text: &[u8], out: &mut AnswerWriter) -> Result<(), CallFault> {
     let x = read_quantity(alloc, text)?;
-    Ok(put_truth(x.is_number(), out)?)
+    put_truth(x.is_number(), out);
+    Ok(())
 }
 
 // Appends a copy of a quantity, or its opposite.
@@ -39,11 +40,12 @@ fn put_copy(
     alloc: Global,
     copying: Copying,
     text: &[u8],
-    out: &mut Vec<u8>,
+    out: &mut AnswerWriter,
 ) -> Result<(), CallFault> {
     let x = read_quantity(alloc, text)?;
     let copy = copy_of(alloc, copying, &x)?;
-    Ok(put_quantity(alloc, &copy, out)?)
+    put_quantity(alloc, &copy, out);
+    Ok(())
 }
 
 // Copies a quantity, or returns its opposite.
@@ -61,7 +63,7 @@ fn put_pair(
     call: Pair,
     left: &[u8],
     right: &[u8],
-    out: &mut Vec<u8>,
+    out: &mut AnswerWriter,
 ) -> Result<(), CallFault> {
     match call {
         Pair::Reading(direction) => put_reading(alloc, direction, left, right, out),
@@ -79,11 +81,12 @@ fn put_digits(
     alloc: Global,
     count: &[u8],
     text: &[u8],
-    out: &mut Vec<u8>,
+    out: &mut AnswerWriter,
 ) -> Result<(), CallFault> {
     let style = Style::Digits(read_count(count)?.value);
     let x = read_quantity(alloc, text)?;
-    Ok(x.put(alloc, out, style)?)
+    out.put_text(x.show(alloc, style));
+    Ok(())
 }
 
 // Appends the exponent of a name in a quantity.
@@ -91,10 +94,11 @@ fn put_exponent_of(
     alloc: Global,
     text: &[u8],
     name: &[u8],
-    out: &mut Vec<u8>,
+    out: &mut AnswerWriter,
 ) -> Result<(), CallFault> {
     let x = read_quantity(alloc, text)?;
-    Ok(put_exponent(alloc, &x.exponent(name), out)?)
+    put_exponent(&x.exponent(name), out);
+    Ok(())
 }
 
 // Appends whether a relation of two quantities holds.
@@ -103,7 +107,7 @@ fn put_relation(
     relation: Relation,
     left: &[u8],
     right: &[u8],
-    out: &mut Vec<u8>,
+    out: &mut AnswerWriter,
 ) -> Result<(), CallFault> {
     let x = read_quantity(alloc, left)?;
     let y = read_quantity(alloc, right)?;
@@ -111,7 +115,8 @@ fn put_relation(
         Relation::Conforms => x.conforms(&y),
         Relation::IsReciprocal => x.is_reciprocal(&y),
     };
-    Ok(put_truth(holds, out)?)
+    put_truth(holds, out);
+    Ok(())
 }
 
 // Appends the result of a step that borrows the first quantity.
@@ -120,11 +125,12 @@ fn put_borrowing(
     operator: Operator,
     left: &[u8],
     right: &[u8],
-    out: &mut Vec<u8>,
+    out: &mut AnswerWriter,
 ) -> Result<(), CallFault> {
     let x = read_quantity(alloc, left)?;
     let y = read_quantity(alloc, right)?;
-    Ok(put_result(alloc, &borrowing_result(alloc, operator, &x, &y), out)?)
+    put_result(alloc, &borrowing_result(alloc, operator, &x, &y), out);
+    Ok(())
 }
 
 // Makes a step that borrows the first quantity.
@@ -149,11 +155,12 @@ fn put_owning(
     operator: Operator,
     left: &[u8],
     right: &[u8],
-    out: &mut Vec<u8>,
+    out: &mut AnswerWriter,
 ) -> Result<(), CallFault> {
     let y = read_quantity(alloc, right)?;
     let x = read_quantity(alloc, left)?;
-    Ok(put_result(alloc, &owning_result(alloc, operator, x, &y), out)?)
+    put_result(alloc, &owning_result(alloc, operator, x, &y), out);
+    Ok(())
 }
 
 // Makes a step that takes ownership of the first quantity.

@@ -2,82 +2,86 @@
 
 use def_entry::{Entry, FunctionDef, Key, What, key_text};
 use std::alloc::{AllocError, Global};
-use test_lines::{key_in, put_count};
+use test_lines::{AnswerWriter, key_in};
 
 // Appends the text of a key, a description of its entry, and the text of its entry, separated by bars. The key is
 // written, read and written again, and the entry is that of a copy.
 pub(crate) fn put_entry(
     alloc: Global,
-    out: &mut Vec<u8>,
+    out: &mut AnswerWriter,
     key: &Key,
     what: &What,
     line: &[u8],
-) -> Result<(), AllocError> {
-    put_copied_key(alloc, out, key)?;
-    put_copied_entry(alloc, out, line, what)
+) {
+    put_copied_key(alloc, out, key);
+    put_copied_entry(alloc, out, line, what);
 }
 
 // Appends the text of a key after it was written and read.
-fn put_copied_key(alloc: Global, out: &mut Vec<u8>, key: &Key) -> Result<(), AllocError> {
-    let text = key_text(alloc, key)?;
-    match key_in(alloc, text.as_bytes())? {
-        Some(read) => out.extend_from_slice(key_text(alloc, &read)?.as_bytes()),
-        None => out.extend_from_slice(text.as_bytes()),
+fn put_copied_key(alloc: Global, out: &mut AnswerWriter, key: &Key) {
+    match key_text(alloc, key) {
+        Ok(text) => put_key_of_text(alloc, out, text.as_bytes()),
+        Err(AllocError) => out.leave_out(),
+    }
+}
+
+// Appends the text of the key that `text` names, or `text` itself if it names none.
+fn put_key_of_text(alloc: Global, out: &mut AnswerWriter, text: &[u8]) {
+    match key_in(alloc, text) {
+        Ok(Some(key)) => out.put_key(&key),
+        Ok(None) => out.put(text),
+        Err(AllocError) => out.leave_out(),
     }
 }
 
 // Appends the entry of a copy.
-fn put_copied_entry(
-    alloc: Global,
-    out: &mut Vec<u8>,
-    line: &[u8],
-    what: &What,
-) -> Result<(), AllocError> {
-    let what = what.copy(alloc)?;
-    put_parts(alloc, out, Entry { line, what: &what })
+fn put_copied_entry(alloc: Global, out: &mut AnswerWriter, line: &[u8], what: &What) {
+    match what.copy(alloc) {
+        Ok(copy) => put_parts(out, Entry { line, what: &copy }),
+        Err(AllocError) => out.leave_out(),
+    }
 }
 
 // Appends a description of an entry and its text, each after a bar.
-fn put_parts(alloc: Global, out: &mut Vec<u8>, entry: Entry<'_>) -> Result<(), AllocError> {
-    out.extend_from_slice(b" | ")?;
-    put_what(alloc, out, entry.what)?;
-    out.extend_from_slice(b" | ")?;
-    out.extend_from_slice(entry.text())
+fn put_parts(out: &mut AnswerWriter, entry: Entry<'_>) {
+    out.put(b" | ");
+    put_what(out, entry.what);
+    out.put(b" | ");
+    out.put(entry.text());
 }
 
 // Appends a short description of an entry.
-fn put_what(alloc: Global, out: &mut Vec<u8>, what: &What) -> Result<(), AllocError> {
+fn put_what(out: &mut AnswerWriter, what: &What) {
     match what {
-        What::Primitive => out.extend_from_slice(b"primitive"),
-        What::Dimensionless => out.extend_from_slice(b"dimensionless"),
-        What::Body(_) => out.extend_from_slice(b"body"),
+        What::Primitive => out.put(b"primitive"),
+        What::Dimensionless => out.put(b"dimensionless"),
+        What::Body(_) => out.put(b"body"),
         What::Function(function) => put_function(out, function),
         What::Alias(target) => {
-            out.extend_from_slice(b"alias of ")?;
-            out.extend_from_slice(target.as_bytes())
+            out.put(b"alias of ");
+            out.put(target.as_bytes());
         }
-        What::Table(_) => out.extend_from_slice(b"table"),
+        What::Table(_) => out.put(b"table"),
         What::ListOf(parts) => {
-            out.extend_from_slice(b"list of ")?;
-            put_count(alloc, out, parts.len(), b"")
+            out.put(b"list of ");
+            out.put_number(parts.len());
         }
     }
 }
 
 // Appends the description of a function, with the parts that it has besides its forward expression.
-fn put_function(out: &mut Vec<u8>, function: &FunctionDef) -> Result<(), AllocError> {
-    out.extend_from_slice(b"function")?;
-    put_if(out, function.in_unit.is_some(), b" in")?;
-    put_if(out, function.out_unit.is_some(), b" out")?;
-    put_if(out, function.domain.is_some(), b" domain")?;
-    put_if(out, function.range.is_some(), b" range")?;
-    put_if(out, function.inverse.is_some(), b" inverse")
+fn put_function(out: &mut AnswerWriter, function: &FunctionDef) {
+    out.put(b"function");
+    put_if(out, function.in_unit.is_some(), b" in");
+    put_if(out, function.out_unit.is_some(), b" out");
+    put_if(out, function.domain.is_some(), b" domain");
+    put_if(out, function.range.is_some(), b" range");
+    put_if(out, function.inverse.is_some(), b" inverse");
 }
 
 // Appends a word if its part is present.
-fn put_if(out: &mut Vec<u8>, is_present: bool, word: &[u8]) -> Result<(), AllocError> {
+fn put_if(out: &mut AnswerWriter, is_present: bool, word: &[u8]) {
     if is_present {
-        out.extend_from_slice(word)?;
+        out.put(word);
     }
-    Ok(())
 }

@@ -2,10 +2,10 @@
 
 use crate::amounts::put_amount_answer;
 use crate::numbers::put_number_answer;
-use crate::report::report_to;
+use crate::report::put_report;
 use crate::texts::put_text_answer;
 use std::alloc::{AllocError, Global};
-use test_lines::{Answers, CallFault, meaning_of, put_answers};
+use test_lines::{AnswerWriter, Answers, CallFault, meaning_of, put_answers};
 
 // A kind of calls.
 #[derive(Clone, Copy)]
@@ -35,13 +35,13 @@ pub(crate) fn read_kind(name: &[u8]) -> Option<Kind> {
 
 // Returns the answers to all lines.
 pub(crate) fn answers_to(alloc: Global, kind: Kind, lines: &[u8]) -> Result<Vec<u8>, AllocError> {
-    if let Kind::Entries = kind {
-        return report_to(alloc, lines);
-    }
     let mut kind = kind;
-    let mut out = Vec::new(alloc);
-    put_answers(alloc, &mut kind, lines, &mut out)?;
-    Ok(out)
+    let mut out = AnswerWriter::new(alloc);
+    match kind {
+        Kind::Entries => put_report(alloc, lines, &mut out),
+        _ => put_answers(alloc, &mut kind, lines, &mut out),
+    }
+    out.into_text()
 }
 
 impl Answers for Kind {
@@ -49,7 +49,7 @@ impl Answers for Kind {
         &mut self,
         alloc: Global,
         line: &[u8],
-        out: &mut Vec<u8>,
+        out: &mut AnswerWriter,
     ) -> Result<(), CallFault> {
         match self {
             Kind::Numbers => put_number_answer(alloc, line, out)?,
@@ -57,6 +57,7 @@ impl Answers for Kind {
             Kind::Texts => put_text_answer(alloc, line, out)?,
             Kind::Entries => return Err(CallFault::BadCall),
         }
-        Ok(out.extend_from_slice(b"\n")?)
+        out.put(b"\n");
+        Ok(())
     }
 }

@@ -5,11 +5,11 @@ ghost use Rattle.std.specs.List.{position};
 ghost use Rattle.def_entry.specs.Keys as key_spec;
 ghost use Rattle.def_entry.specs.SameKeys.{is_same_entry_key, is_same_key_kind};
 
-use def_entry::{Key, Keys, Kind, key_text};
+use def_entry::{Key, Keys, Kind};
 use expr_tree::WordKind;
 use name_lookup::{Looking, Present, resolve};
 use std::alloc::{AllocError, Global};
-use test_lines::{CallFault, key_in, meaning_of, split_at_space};
+use test_lines::{AnswerWriter, CallFault, key_in, meaning_of, split_at_space};
 use units_io::Text;
 
 // A list of keys as a table.
@@ -96,49 +96,44 @@ const POSITIONS: &[(&[u8], WordKind)] = &[
 ];
 
 // Appends the answer to a lookup, given the position of the word, the word and the keys.
-pub(crate) fn put_lookup(alloc: Global, text: &[u8], out: &mut Vec<u8>) -> Result<(), CallFault> {
+pub(crate) fn put_lookup(
+    alloc: Global,
+    text: &[u8],
+    out: &mut AnswerWriter,
+) -> Result<(), CallFault> {
     let (position, text) = split_at_space(text);
     let (word, keys) = split_at_space(text);
     let Some(kind) = meaning_of(POSITIONS, position) else {
         return Err(CallFault::BadCall);
     };
     let table = Table::read(alloc, keys)?;
-    Ok(put_found(alloc, &table, word, kind, out)?)
+    put_found(alloc, &table, word, kind, out);
+    Ok(())
 }
 
 // Appends the keys that a word of this kind leads to, which are the last of those that were looked at, and all of
 // these.
-fn put_found(
-    alloc: Global,
-    table: &Table,
-    word: &[u8],
-    kind: WordKind,
-    out: &mut Vec<u8>,
-) -> Result<(), AllocError> {
+fn put_found(alloc: Global, table: &Table, word: &[u8], kind: WordKind, out: &mut AnswerWriter) {
     let keys = Keys::new(alloc);
     let mut looked = Looked { keys };
-    let count = resolve(alloc, table, &mut looked, word, kind)?.count();
-    put_looked(alloc, looked.keys.as_slice(), count, out)
+    match resolve(alloc, table, &mut looked, word, kind) {
+        Ok(targets) => put_looked(looked.keys.as_slice(), targets.count(), out),
+        Err(AllocError) => out.leave_out(),
+    }
 }
 
 // Appends the last `count` keys, and all keys.
-fn put_looked(
-    alloc: Global,
-    keys: &[Key],
-    count: usize,
-    out: &mut Vec<u8>,
-) -> Result<(), AllocError> {
-    out.extend_from_slice(b"found")?;
-    put_keys(alloc, out, &keys[keys.len().saturating_sub(count)..])?;
-    out.extend_from_slice(b"; looked at")?;
-    put_keys(alloc, out, keys)
+fn put_looked(keys: &[Key], count: usize, out: &mut AnswerWriter) {
+    out.put(b"found");
+    put_keys(out, &keys[keys.len().saturating_sub(count)..]);
+    out.put(b"; looked at");
+    put_keys(out, keys);
 }
 
 // Appends the texts of keys, each after a space.
-fn put_keys(alloc: Global, out: &mut Vec<u8>, keys: &[Key]) -> Result<(), AllocError> {
+fn put_keys(out: &mut AnswerWriter, keys: &[Key]) {
     for key in keys {
-        out.extend_from_slice(b" ")?;
-        out.extend_from_slice(key_text(alloc, key)?.as_bytes())?;
+        out.put(b" ");
+        out.put_key(key);
     }
-    Ok(())
 }

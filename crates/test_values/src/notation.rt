@@ -2,94 +2,94 @@
 
 use expr_tree::{Factors, Scale, Sign, Terms, Tree, Trees};
 use frac128::Numeral;
-use std::alloc::{AllocError, Global};
+use test_lines::AnswerWriter;
 
 // Appends a tree.
 #[cycle(put)]
 #[tactic(auto, using(crate::proofs::Sizes::sizes))]
-pub(crate) fn put_tree(alloc: Global, out: &mut Vec<u8>, tree: &Tree) -> Result<(), AllocError> {
+pub(crate) fn put_tree(out: &mut AnswerWriter, tree: &Tree) {
     match tree {
-        Tree::Number(x) => put_numeral(alloc, out, x),
-        Tree::Bar(quotient) => put_bar(alloc, out, &quotient.top, &quotient.bottom),
+        Tree::Number(x) => put_numeral(out, x),
+        Tree::Bar(quotient) => put_bar(out, &quotient.top, &quotient.bottom),
         Tree::Word(word) => put_word(out, word.as_bytes()),
-        Tree::Argument => out.extend_from_slice(b"[]"),
+        Tree::Argument => out.put(b"[]"),
         Tree::Call(word, operand) => {
-            out.extend_from_slice(b"(call ")?;
-            put_word(out, word.as_bytes())?;
-            put_last(alloc, out, operand)
+            out.put(b"(call ");
+            put_word(out, word.as_bytes());
+            put_last(out, operand);
         }
         Tree::Inverse(word, operand) => {
-            out.extend_from_slice(b"(inverse ")?;
-            put_word(out, word.as_bytes())?;
-            put_last(alloc, out, operand)
+            out.put(b"(inverse ");
+            put_word(out, word.as_bytes());
+            put_last(out, operand);
         }
         Tree::Root(kind, operand) => {
-            out.extend_from_slice(b"(root ")?;
-            out.extend_from_slice(kind.degree().to_string(alloc)?.as_bytes())?;
-            put_last(alloc, out, operand)
+            out.put(b"(root ");
+            out.put_number(kind.degree());
+            put_last(out, operand);
         }
         Tree::Group(operand) => {
-            out.extend_from_slice(b"(group")?;
-            put_last(alloc, out, operand)
+            out.put(b"(group");
+            put_last(out, operand);
         }
         Tree::Negate(operand) => {
-            out.extend_from_slice(b"(negate")?;
-            put_last(alloc, out, operand)
+            out.put(b"(negate");
+            put_last(out, operand);
         }
         Tree::Power(base, exponent) => {
-            out.extend_from_slice(b"(power ")?;
-            put_tree(alloc, out, base)?;
-            put_last(alloc, out, exponent)
+            out.put(b"(power ");
+            put_tree(out, base);
+            put_last(out, exponent);
         }
-        Tree::Juxtaposed(members) => put_members(alloc, out, members),
-        Tree::Product(members) => put_factors(alloc, out, members),
-        Tree::Sum(members) => put_terms(alloc, out, members),
+        Tree::Juxtaposed(members) => put_members(out, members),
+        Tree::Product(members) => put_factors(out, members),
+        Tree::Sum(members) => put_terms(out, members),
     }
 }
 
 // Appends the last part of a tree and the closing parenthesis.
 #[cycle(put)]
 #[tactic(auto, using(crate::proofs::Sizes::sizes))]
-fn put_last(alloc: Global, out: &mut Vec<u8>, tree: &Tree) -> Result<(), AllocError> {
-    out.extend_from_slice(b" ")?;
-    put_tree(alloc, out, tree)?;
-    out.extend_from_slice(b")")
+fn put_last(out: &mut AnswerWriter, tree: &Tree) {
+    out.put(b" ");
+    put_tree(out, tree);
+    out.put(b")");
 }
 
 // Appends juxtaposed operands.
 #[cycle(put)]
 #[tactic(auto, using(crate::proofs::Sizes::sizes))]
-fn put_members(alloc: Global, out: &mut Vec<u8>, members: &Trees) -> Result<(), AllocError> {
-    out.extend_from_slice(b"(side")?;
+fn put_members(out: &mut AnswerWriter, members: &Trees) {
+    out.put(b"(side");
     for member in members.as_slice() {
-        out.extend_from_slice(b" ")?;
-        put_tree(alloc, out, member)?;
+        out.put(b" ");
+        put_tree(out, member);
     }
-    out.extend_from_slice(b")")
+    out.put(b")");
 }
 
 // Appends a product.
 #[cycle(put)]
 #[tactic(auto, using(crate::proofs::Sizes::sizes))]
-fn put_factors(alloc: Global, out: &mut Vec<u8>, members: &Factors) -> Result<(), AllocError> {
-    out.extend_from_slice(b"(product")?;
+fn put_factors(out: &mut AnswerWriter, members: &Factors) {
+    out.put(b"(product");
     for member in members.as_slice() {
-        out.extend_from_slice(scale_text(member.0))?;
-        put_tree(alloc, out, &member.1)?;
+        out.put(scale_text(member.0));
+        put_tree(out, &member.1);
     }
-    out.extend_from_slice(b")")
+    out.put(b")");
 }
 
 // Appends a sum.
 #[cycle(put)]
 #[tactic(auto, using(crate::proofs::Sizes::sizes))]
-fn put_terms(alloc: Global, out: &mut Vec<u8>, members: &Terms) -> Result<(), AllocError> {
-    out.extend_from_slice(b"(sum")?;
+fn put_terms(out: &mut AnswerWriter, members: &Terms) {
+    out.put(b"(sum");
     for member in members.as_slice() {
-        out.extend_from_slice(sign_text(member.0))?;
-        put_tree(alloc, out, &member.1)?;
+        out.put(sign_text(member.0));
+        put_tree(out, &member.1);
     }
-    out.extend_from_slice(b")")
+    out.put(b")");
 }
 
 // Returns `*` or `/` between blanks.
@@ -109,33 +109,27 @@ fn sign_text(sign: Sign) -> &'static [u8] {
 }
 
 // Appends a quotient of two numerals.
-fn put_bar(
-    alloc: Global,
-    out: &mut Vec<u8>,
-    top: &Numeral,
-    bottom: &Numeral,
-) -> Result<(), AllocError> {
-    out.extend_from_slice(b"(bar ")?;
-    put_numeral(alloc, out, top)?;
-    out.extend_from_slice(b" ")?;
-    put_numeral(alloc, out, bottom)?;
-    out.extend_from_slice(b")")
+fn put_bar(out: &mut AnswerWriter, top: &Numeral, bottom: &Numeral) {
+    out.put(b"(bar ");
+    put_numeral(out, top);
+    out.put(b" ");
+    put_numeral(out, bottom);
+    out.put(b")");
 }
 
 // Appends a numeral: its coefficient, and its power of ten unless that is 1.
-fn put_numeral(alloc: Global, out: &mut Vec<u8>, x: &Numeral) -> Result<(), AllocError> {
-    out.extend_from_slice(x.coefficient().to_string(alloc)?.as_bytes())?;
+fn put_numeral(out: &mut AnswerWriter, x: &Numeral) {
+    out.put_number(x.coefficient());
     let power = x.scale();
     if power != 0 {
-        out.extend_from_slice(b"e")?;
-        out.extend_from_slice(power.to_string(alloc)?.as_bytes())?;
+        out.put(b"e");
+        out.put_number(power);
     }
-    Ok(())
 }
 
 // Appends a word in brackets.
-pub(crate) fn put_word(out: &mut Vec<u8>, word: &[u8]) -> Result<(), AllocError> {
-    out.extend_from_slice(b"[")?;
-    out.extend_from_slice(word)?;
-    out.extend_from_slice(b"]")
+pub(crate) fn put_word(out: &mut AnswerWriter, word: &[u8]) {
+    out.put(b"[");
+    out.put(word);
+    out.put(b"]");
 }

@@ -5,35 +5,36 @@ use crate::reading::{read_count, read_fraction, read_whole};
 use def_entry::cut_at;
 use digits_print::{print_digits, print_exact};
 use frac128::{Frac, FracFault, NumeralFault, numeral_len, read_numeral};
-use std::alloc::{AllocError, Global};
+use std::alloc::Global;
 use std::cmp::Ordering;
 use std::num::NonZeroU32;
-use test_lines::{CallFault, put_count};
+use test_lines::{AnswerWriter, CallFault};
 
 // Appends the answer to a call: a word, a space and the arguments of the word.
 pub(crate) fn put_number_answer(
     alloc: Global,
     line: &[u8],
-    out: &mut Vec<u8>,
+    out: &mut AnswerWriter,
 ) -> Result<(), CallFault> {
     let Some((word, arguments)) = cut_at(line, b' ') else {
         return Err(CallFault::BadCall);
     };
     match number_call(word) {
-        Some(NumberCall::Length) => Ok(put_count(alloc, out, numeral_len(arguments), b"")?),
-        Some(NumberCall::Numeral) => Ok(put_numeral(alloc, arguments, out)?),
-        Some(NumberCall::Single(call)) => put_single(alloc, call, arguments, out),
-        Some(NumberCall::Pair(call)) => put_pair(alloc, call, arguments, out),
-        None => Err(CallFault::BadCall),
+        Some(NumberCall::Length) => out.put_number(numeral_len(arguments)),
+        Some(NumberCall::Numeral) => put_numeral(alloc, arguments, out),
+        Some(NumberCall::Single(call)) => return put_single(alloc, call, arguments, out),
+        Some(NumberCall::Pair(call)) => return put_pair(alloc, call, arguments, out),
+        None => return Err(CallFault::BadCall),
     }
+    Ok(())
 }
 
 // Appends the exact value of a numeral, or its fault.
-fn put_numeral(alloc: Global, text: &[u8], out: &mut Vec<u8>) -> Result<(), AllocError> {
+fn put_numeral(alloc: Global, text: &[u8], out: &mut AnswerWriter) {
     match read_numeral(text) {
         Ok(numeral) => put_result(alloc, numeral.value(), out),
-        Err(NumeralFault::NotNumeral) => out.extend_from_slice(b"not a numeral"),
-        Err(NumeralFault::TooLong) => out.extend_from_slice(b"too long"),
+        Err(NumeralFault::NotNumeral) => out.put(b"not a numeral"),
+        Err(NumeralFault::TooLong) => out.put(b"too long"),
     }
 }
 
@@ -42,16 +43,16 @@ fn put_single(
     alloc: Global,
     call: Single,
     text: &[u8],
-    out: &mut Vec<u8>,
+    out: &mut AnswerWriter,
 ) -> Result<(), CallFault> {
     let x = read_fraction(text)?;
-    let answered = match call {
-        Single::IsZero => out.extend_from_slice(truth_text(x.is_zero())),
+    match call {
+        Single::IsZero => out.put(truth_text(x.is_zero())),
         Single::Exact => put_exact(alloc, &x, out),
         Single::Negate => put_exact(alloc, &x.negate(), out),
         Single::Floor => put_exact(alloc, &x.floor(), out),
-    };
-    Ok(answered?)
+    }
+    Ok(())
 }
 
 // Appends the answer to a call with two arguments, which are separated by a space.
@@ -59,7 +60,7 @@ fn put_pair(
     alloc: Global,
     call: Pair,
     arguments: &[u8],
-    out: &mut Vec<u8>,
+    out: &mut AnswerWriter,
 ) -> Result<(), CallFault> {
     let Some((first, second)) = cut_at(arguments, b' ') else {
         return Err(CallFault::BadCall);
@@ -72,7 +73,8 @@ fn put_pair(
         Pair::Root => root(first, second)?,
         Pair::Operation(operator) => operation(operator, first, second)?,
     };
-    Ok(put_result(alloc, result, out)?)
+    put_result(alloc, result, out);
+    Ok(())
 }
 
 // Appends a fraction, rounded to a number of digits.
@@ -80,17 +82,19 @@ fn put_digits(
     alloc: Global,
     count: &[u8],
     fraction: &[u8],
-    out: &mut Vec<u8>,
+    out: &mut AnswerWriter,
 ) -> Result<(), CallFault> {
     let count = read_count(count)?;
     let x = read_fraction(fraction)?;
-    Ok(out.extend_from_slice(print_digits(alloc, &x, count.value)?.as_bytes())?)
+    out.put_text(print_digits(alloc, &x, count.value));
+    Ok(())
 }
 
 // Appends how the first of two fractions compares to the second.
-fn put_order(first: &[u8], second: &[u8], out: &mut Vec<u8>) -> Result<(), CallFault> {
+fn put_order(first: &[u8], second: &[u8], out: &mut AnswerWriter) -> Result<(), CallFault> {
     let order = read_fraction(first)?.cmp(&read_fraction(second)?);
-    Ok(out.extend_from_slice(order_text(order))?)
+    out.put(order_text(order));
+    Ok(())
 }
 
 // The result of a step on fractions, if the arguments can be read.
@@ -125,20 +129,16 @@ fn operation(operator: Operator, first: &[u8], second: &[u8]) -> Step {
 }
 
 // Appends the exact result of a step, or its fault.
-fn put_result(
-    alloc: Global,
-    outcome: Result<Frac, FracFault>,
-    out: &mut Vec<u8>,
-) -> Result<(), AllocError> {
+fn put_result(alloc: Global, outcome: Result<Frac, FracFault>, out: &mut AnswerWriter) {
     match outcome {
         Ok(x) => put_exact(alloc, &x, out),
-        Err(fault) => out.extend_from_slice(fault.text()),
+        Err(fault) => out.put(fault.text()),
     }
 }
 
 // Appends the exact text of a fraction.
-pub(crate) fn put_exact(alloc: Global, x: &Frac, out: &mut Vec<u8>) -> Result<(), AllocError> {
-    out.extend_from_slice(print_exact(alloc, x)?.as_bytes())
+pub(crate) fn put_exact(alloc: Global, x: &Frac, out: &mut AnswerWriter) {
+    out.put_text(print_exact(alloc, x));
 }
 
 // Returns `true` or `false`.

@@ -1,6 +1,6 @@
 //! The report on a definition file.
 
-ghost use Rattle.std.specs.Prelude.{◌≡◌, ◌≤◌, length, true};
+ghost use Rattle.std.specs.Prelude.{◌≡◌, true};
 ghost use Rattle.def_lines.specs.Kinds.{kind_of_line};
 ghost use Rattle.def_entry.specs.EntryReading.{has_entry};
 
@@ -8,85 +8,70 @@ use crate::entry_text::put_entry;
 use def_entry::{EntryFault, read_entry};
 use def_lines::{LineKind, Lines, classify, split_lines};
 use std::alloc::{AllocError, Global};
-use test_lines::{entry_refusal, put_count};
+use test_lines::{AnswerWriter, put_entry_refusal};
 use units_io::LONGEST_FILE;
 
-// The report on the lines so far: the rows, and how many there are of each kind.
-#[derive(Drop)]
-struct Report {
-    rows: Vec<u8>,
+// How many rows of each kind a report has.
+#[derive(Clone, Copy)]
+struct RowCounts {
     entries: usize,
     refusals: usize,
 }
 
-// Returns the report on a file: a row for each definition and list, and the numbers of these rows and of refusals. If
+// Appends the report on a file: a row for each definition and list, and the numbers of these rows and of refusals. If
 // the file is too long, the report is a message about this.
-pub(crate) fn report_to(alloc: Global, bytes: &[u8]) -> Result<Vec<u8>, AllocError> {
+pub(crate) fn put_report(alloc: Global, bytes: &[u8], out: &mut AnswerWriter) {
     if bytes.len() > LONGEST_FILE {
-        return Vec::from_slice(alloc, b"file too long\n");
+        return out.put(b"file too long\n");
     }
-    let mut report = Report {
-        rows: Vec::new(alloc),
+    match split_lines(alloc, bytes) {
+        Ok(lines) => put_rows(alloc, &lines, out),
+        Err(AllocError) => out.leave_out(),
+    }
+}
+
+// Appends the rows of lines and their numbers.
+fn put_rows(alloc: Global, lines: &Lines, out: &mut AnswerWriter) {
+    let mut counts = RowCounts {
         entries: 0,
         refusals: 0,
     };
-    report.add_file(alloc, bytes)?;
-    Ok(report.rows)
+    for place in 0..lines.len() {
+        let Some(line) = lines.get(place) else {
+            break;
+        };
+        counts.put_line(alloc, line.number, line.text.as_bytes(), out);
+    }
+    out.put_count(counts.entries, b" lines, ");
+    out.put_count(counts.refusals, b" refused\n");
 }
 
-impl Report {
-    // Adds the rows of a file and their numbers.
-    fn add_file(&mut self, alloc: Global, bytes: &[u8]) -> Result<(), AllocError>
-        requires { length bytes.now ≤ 16777216 }
-    {
-        self.add_lines(alloc, &split_lines(alloc, bytes)?)?;
-        put_count(alloc, &mut self.rows, self.entries, b" lines, ")?;
-        put_count(alloc, &mut self.rows, self.refusals, b" refused\n")
-    }
-
-    // Adds the rows of lines.
-    fn add_lines(&mut self, alloc: Global, lines: &Lines) -> Result<(), AllocError> {
-        for place in 0..lines.len() {
-            let Some(line) = lines.get(place) else {
-                break;
-            };
-            self.add_line(alloc, line.number, line.text.as_bytes())?;
-        }
-        Ok(())
-    }
-
-    // Adds the row of a line if it is a definition or a list.
-    fn add_line(&mut self, alloc: Global, number: u32, line: &[u8]) -> Result<(), AllocError> {
+impl RowCounts {
+    // Appends the row of a line if it is a definition or a list.
+    fn put_line(&mut self, alloc: Global, number: u32, line: &[u8], out: &mut AnswerWriter) {
         match classify(line) {
-            LineKind::Definition | LineKind::UnitList => self.add_row(alloc, number, line),
-            _ => Ok(()),
+            LineKind::Definition | LineKind::UnitList => self.put_row(alloc, number, line, out),
+            _ => (),
         }
     }
 
-    // Adds the row of a definition or a list: its line number, and its entry or the reason why it is refused.
-    fn add_row(&mut self, alloc: Global, number: u32, line: &[u8]) -> Result<(), AllocError>
+    // Appends the row of a definition or a list: its line number, and its entry or the reason why it is refused.
+    fn put_row(&mut self, alloc: Global, number: u32, line: &[u8], out: &mut AnswerWriter)
         requires { has_entry (kind_of_line line.now) ≡ true }
     {
         self.entries = self.entries.saturating_add(1);
-        put_count(alloc, &mut self.rows, number as usize, b": ")?;
-        self.add_entry(alloc, line)?;
-        self.rows.extend_from_slice(b"\n")
-    }
-
-    // Adds the entry of a line, or the reason why it is refused.
-    fn add_entry(&mut self, alloc: Global, line: &[u8]) -> Result<(), AllocError>
-        requires { has_entry (kind_of_line line.now) ≡ true }
-    {
+        out.put_count(number as usize, b": ");
         match read_entry(alloc, line) {
-            Ok((key, what)) => put_entry(alloc, &mut self.rows, &key, &what, line),
-            Err(fault) => self.add_refusal(alloc, fault),
+            Ok((key, what)) => put_entry(alloc, out, &key, &what, line),
+            Err(fault) => self.put_refusal(alloc, fault, out),
         }
+        out.put(b"\n");
     }
 
-    // Adds the reason why a line is refused.
-    fn add_refusal(&mut self, alloc: Global, fault: EntryFault) -> Result<(), AllocError> {
+    // Appends the reason why a line is refused.
+    fn put_refusal(&mut self, alloc: Global, fault: EntryFault, out: &mut AnswerWriter) {
         self.refusals = self.refusals.saturating_add(1);
-        self.rows.extend_from_slice(b"refused: ")?;
-        self.rows.extend_from_slice(&entry_refusal(alloc, fault)?)
+        out.put(b"refused: ");
+        put_entry_refusal(alloc, fault, out);
     }
 }

@@ -7,7 +7,7 @@ use crate::reading::read_fraction;
 use frac128::Frac;
 use piecewise::{Points, PointsFault, TableFault};
 use std::alloc::{AllocError, Global};
-use test_lines::CallFault;
+use test_lines::{AnswerWriter, CallFault};
 
 // Appends the number that a table returns.
 pub(crate) fn put_reading(
@@ -15,28 +15,40 @@ pub(crate) fn put_reading(
     direction: Direction,
     number: &[u8],
     points: &[u8],
-    out: &mut Vec<u8>,
+    out: &mut AnswerWriter,
 ) -> Result<(), CallFault> {
     let x = read_fraction(number)?;
     let points = read_points(alloc, points)?;
-    Ok(put_reading_of(alloc, points.as_slice(), direction, &x, out)?)
+    put_reading_of(alloc, points.as_slice(), direction, &x, out);
+    Ok(())
 }
 
-// Builds a table, reads a copy of it, and appends the result.
+// Builds a table and appends what a copy of it returns.
 fn put_reading_of(
     alloc: Global,
     points: &[(Frac, Frac)],
     direction: Direction,
     x: &Frac,
-    out: &mut Vec<u8>,
-) -> Result<(), AllocError> {
+    out: &mut AnswerWriter,
+) {
     match Points::new(alloc, points) {
-        Ok(table) => {
-            let reading = reading_in(&table.copy(alloc)?, direction, x);
-            put_number(alloc, reading, out)
-        }
-        Err(PointsFault::BadPoints) => out.extend_from_slice(b"no table"),
-        Err(PointsFault::OutOfMemory) => Err(AllocError),
+        Ok(table) => put_copied_reading(alloc, &table, direction, x, out),
+        Err(PointsFault::BadPoints) => out.put(b"no table"),
+        Err(PointsFault::OutOfMemory) => out.leave_out(),
+    }
+}
+
+// Appends the number that a copy of a table returns.
+fn put_copied_reading(
+    alloc: Global,
+    table: &Points,
+    direction: Direction,
+    x: &Frac,
+    out: &mut AnswerWriter,
+) {
+    match table.copy(alloc) {
+        Ok(copy) => put_number(alloc, reading_in(&copy, direction, x), out),
+        Err(AllocError) => out.leave_out(),
     }
 }
 
@@ -49,14 +61,10 @@ fn reading_in(table: &Points, direction: Direction, x: &Frac) -> Result<Frac, Ta
 }
 
 // Appends the exact number that a table returned, or its fault.
-fn put_number(
-    alloc: Global,
-    reading: Result<Frac, TableFault>,
-    out: &mut Vec<u8>,
-) -> Result<(), AllocError> {
+fn put_number(alloc: Global, reading: Result<Frac, TableFault>, out: &mut AnswerWriter) {
     match reading {
         Ok(x) => put_exact(alloc, &x, out),
-        Err(TableFault::OutsideTable) => out.extend_from_slice(b"outside the table"),
-        Err(TableFault::Number(fault)) => out.extend_from_slice(fault.text()),
+        Err(TableFault::OutsideTable) => out.put(b"outside the table"),
+        Err(TableFault::Number(fault)) => out.put(fault.text()),
     }
 }
