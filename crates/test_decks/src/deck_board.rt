@@ -89,7 +89,7 @@ impl<F: Files + Drop> Board<F> {
         Ok(())
     }
 
-    // Changes the settings for the following loads and edits.
+    // Changes the settings for the following loads and edits, and appends that this is done.
     fn put_setting(
         &mut self,
         alloc: Global,
