@@ -12,7 +12,7 @@ use Rattle.table_names.specs.Faults.{name_fault}
 use Rattle.table_names.specs.Meanings.{expansion}
 use Rattle.tree_eval.specs.Steps.{ValueOrFault}
 use Rattle.tree_eval.specs.Value.{value}
-use Rattle.live_table.specs.Answers.{live_answer_of_worth, live_table_answer}
+use Rattle.live_table.specs.Answers.{live_answer_of_value, live_table_answer}
 use Rattle.live_table.specs.States.{AsksWords, LiveEvent}
 use Rattle.reply.specs.declared.fault.ReplyFault.{ReplyFault}
 use Rattle.reply.specs.declared.options.Options.{Options}
@@ -23,15 +23,15 @@ use Rattle.reply.specs.Targets.{conversion_target}
 use Rattle.column_convert.specs.declared.signed_number.Signed.{Signed}
 use Rattle.column_convert.specs.Cells.{cell_options, cell_text_after_minus, number_queries}
 use Rattle.column_convert.specs.CachedValues.{AreColumnTextsPlain, IsCellNumber}
-use Rattle.column_convert.specs.Worths.{cell_product_inquiry, cell_product_worth}
+use Rattle.column_convert.specs.CellValues.{cell_product_inquiry, value_of_cell_product}
 use Rattle.column_convert.proofs.PlainTrees.{plain_column_texts_are_no_calls}
 use Rattle.column_convert.proofs.Replies.{product_converting}
 use Rattle.column_convert.proofs.ValueReplies.{cell_conversion_is_of_product, unit_target}
-use Rattle.column_convert.proofs.Worths.{column_text_tree_value}
+use Rattle.column_convert.proofs.CellValues.{column_text_tree_value}
 
 -- an expression with a value has no name fault
 valued_column_text_has_no_fault : (fault : Option NameFault) (w : ValueOrFault) (x : Amount)
-    → live_answer_of_worth fault w ≡ Ok x → (fault ≡ None) × (w ≡ Ok x)
+    → live_answer_of_value fault w ≡ Ok x → (fault ≡ None) × (w ≡ Ok x)
 valued_column_text_has_no_fault (Some f) w x e = cc
 valued_column_text_has_no_fault None (Ok q) x e = (refl, cc)
 valued_column_text_has_no_fault None (Err f) x e = cc
@@ -78,15 +78,15 @@ module _ (table : EntryTable) (options : Options) (from to number : List ℕ) (n
       (rest.0, queries_by_product ∙ rest.1)
 
   module _ (x p : Amount) (is : live_table_answer table f ≡ Ok x)
-      (product : cell_product_worth n.negative n.numeral (Ok x) ≡ Ok p) where
+      (product : value_of_cell_product n.negative n.numeral (Ok x) ≡ Ok p) where
     product_known : (cell_product_inquiry table n.negative n.numeral f).answer ≡ Ok p
     product_known =
         let a = answered_column_text_has_value table f x is in
         ap (λ o. inquiry_answer
-        (live_answer_of_worth o (cell_product_worth n.negative n.numeral (value (expansion table f) None)))) a.0
+        (live_answer_of_value o (value_of_cell_product n.negative n.numeral (value (expansion table f) None)))) a.0
         ∙ ap (λ (w : ValueOrFault).
-        inquiry_answer (live_answer_of_worth None (cell_product_worth n.negative n.numeral w))) a.1
-        ∙ ap (λ (w : ValueOrFault). inquiry_answer (live_answer_of_worth None w)) product
+        inquiry_answer (live_answer_of_value None (value_of_cell_product n.negative n.numeral w))) a.1
+        ∙ ap (λ (w : ValueOrFault). inquiry_answer (live_answer_of_value None w)) product
 
     -- the words of TO are queried next
     pub both_first : (rest : List LiveEvent) × (number_queries table options from to number

@@ -19,12 +19,12 @@ use Rattle.column_convert.specs.Cells.{cell_of_reply, cell_options, cell_text_af
 use Rattle.column_convert.specs.CachedValues.{AreColumnValuesKnown, IsCellOf, IsCellRecallEmpty, IsCellRecallRight}
 use Rattle.column_convert.specs.CachedValues.{IsKnownCell, IsRememberedCell, IsCellNumber}
 use Rattle.column_convert.specs.Products.{cell_product_text}
-use Rattle.column_convert.specs.Worths.{cell_product_worth}
+use Rattle.column_convert.specs.CellValues.{value_of_cell_product}
 use Rattle.column_convert.proofs.Replies.{cell_product_is_trimmed}
 use Rattle.column_convert.proofs.ValueReplies.{cell_reply_law}
 
 module _ (options : Options) (known : Known) (n : Signed) (p : Amount)
-    (product : cell_product_worth n.negative n.numeral (Ok known.from_value) ≡ Ok p) (shown : LiveView)
+    (product : value_of_cell_product n.negative n.numeral (Ok known.from_value) ≡ Ok p) (shown : LiveView)
     (from to number : List ℕ) (k : AreColumnValuesKnown shown from to known) (s : IsCellNumber number n) where
   known_reply : (number_reply (table_of_deck shown.deck) options from to number
       ≡ comparison_reply (cell_options options) (cell_product_text number from) (trimmed_of_blanks to) p known.to_value)

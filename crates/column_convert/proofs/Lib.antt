@@ -10,7 +10,7 @@ mod Alike
 mod Numbers
 mod Spelt
 mod Products
-mod Worths
+mod CellValues
 mod Replies
 mod Again
 mod AnyLength

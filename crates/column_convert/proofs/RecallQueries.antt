@@ -22,7 +22,7 @@ use Rattle.column_convert.specs.declared.signed_number.Signed.{Signed}
 use Rattle.column_convert.specs.Cells.{cell_of_reply, number_queries, number_reply}
 use Rattle.column_convert.specs.CachedValues.{AreCellQueriesBegun, AreCellQueriesOfNumberBegun, AreColumnTextsPlain}
 use Rattle.column_convert.specs.CachedValues.{AreColumnValuesKnown, IsCellRecallRight, IsCellNumber, IsRememberedCell}
-use Rattle.column_convert.specs.Worths.{AreColumnTextsValued, cell_product_worth}
+use Rattle.column_convert.specs.CellValues.{AreColumnTextsValued, value_of_cell_product}
 use Rattle.column_convert.proofs.Again.{cell_queries_again_take_no_step}
 use Rattle.column_convert.proofs.BegunQueries.{begun_follows, begun_made, begun_stopped, cell_queries_begun_by_none}
 use Rattle.column_convert.proofs.BegunQueries.{cell_queries_begun_by_texts}
@@ -83,7 +83,7 @@ module _ (from to : List ℕ) (n : Signed) (f g : Syntax) (a : LiveView)
     from_stopped Q (Err e) failed = λ options number s. begun_stopped _ a b o m (from_begun options number s)
 
     module _ (x p : Amount) (is : live_table_answer (table_of_deck a.deck) f ≡ Ok x)
-        (product : cell_product_worth n.negative n.numeral (Ok x) ≡ Ok p) (c : LiveView) (k : ℕ)
+        (product : value_of_cell_product n.negative n.numeral (Ok x) ≡ Ok p) (c : LiveView) (k : ℕ)
         (same : c.deck ≡ b.deck) where
       -- memory ran out while TO was queried
       pub to_cut : {A : Type 0} (Q : AllocError → Type 0) (r : Result A AllocError) → IsErrAnd r Q

@@ -11,12 +11,12 @@ use Rattle.expr_tree.specs.Syntax.{Syntax}
 use Rattle.def_entry.specs.Tables.{EntryTable}
 use Rattle.reply.specs.declared.options.Options.{Options}
 use Rattle.reply.specs.Conversions.{converted_to}
-use Rattle.reply.specs.Inquiries.{Inquiry, inquiry_after, text_worth}
+use Rattle.reply.specs.Inquiries.{Inquiry, inquiry_after, value_of_text}
 use Rattle.reply.specs.Replies.{conversion_inquiry}
 use Rattle.reply.specs.Targets.{conversion_target}
 use Rattle.column_convert.specs.Products.{cell_product_text, signed_cell_text}
-use Rattle.column_convert.specs.Worths.{cell_product_inquiry}
-use Rattle.column_convert.proofs.Worths.{cell_product_text_worth}
+use Rattle.column_convert.specs.CellValues.{cell_product_inquiry}
+use Rattle.column_convert.proofs.CellValues.{cell_product_text_value}
 
 -- ---- there are no blanks at the ends
 cell_close_is_not_trimmed : (xs : List ℕ) → before_blanks (xs ++ 41 ∷ []) ≡ xs ++ 41 ∷ []
@@ -47,9 +47,9 @@ module _ (table : EntryTable) (options : Options) (negative : Bool) (x y : Numer
       ≡ inquiry_after (cell_product_inquiry table negative x f).events (cell_product_inquiry table negative x f).answer
       (converted_to table options (trimmed_of_blanks to) (conversion_target table (trimmed_of_blanks to)))
   product_converting =
-      ap (λ (t : List ℕ). inquiry_after (text_worth table t).events (text_worth table t).answer
+      ap (λ (t : List ℕ). inquiry_after (value_of_text table t).events (value_of_text table t).answer
       (converted_to table options (trimmed_of_blanks to) (conversion_target table (trimmed_of_blanks to))))
       (cell_product_is_trimmed (signed_cell_text negative text) from)
       ∙ ap (λ (q : Inquiry Amount). inquiry_after q.events q.answer
       (converted_to table options (trimmed_of_blanks to) (conversion_target table (trimmed_of_blanks to))))
-      (cell_product_text_worth table negative x y text other from f is value other_is other_value tree free)
+      (cell_product_text_value table negative x y text other from f is value other_is other_value tree free)

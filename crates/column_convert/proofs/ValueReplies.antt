@@ -12,7 +12,7 @@ use Rattle.std.proofs.lemmas.Bool.{cond-false}
 use Rattle.expr_tree.specs.ParseResult.{parse_of}
 use Rattle.expr_tree.specs.Syntax.{Syntax}
 use Rattle.expr_tree.specs.Words.{words_in}
-use Rattle.live_table.specs.Answers.{live_answer_of_worth, live_table_answer}
+use Rattle.live_table.specs.Answers.{live_answer_of_value, live_table_answer}
 use Rattle.live_table.specs.States.{AsksWords}
 use Rattle.table_names.specs.Meanings.{expansion}
 use Rattle.tree_eval.specs.Steps.{ValueOrFault}
@@ -20,21 +20,22 @@ use Rattle.tree_eval.specs.Value.{value}
 use Rattle.reply.specs.declared.fault.ReplyFault.{ReplyFault}
 use Rattle.reply.specs.declared.options.Options.{Options}
 use Rattle.reply.specs.Conversions.{conversion_between, conversion_to_unit, converted_to}
-use Rattle.reply.specs.Inquiries.{Inquiry, inquiry_after, inquiry_answer, inquiry_without_queries, text_worth}
+use Rattle.reply.specs.Inquiries.{Inquiry, inquiry_after, inquiry_answer, inquiry_without_queries, value_of_text}
 use Rattle.reply.specs.Options.{reply_form}
 use Rattle.reply.specs.Replies.{conversion_inquiry, conversion_result_as_reply}
 use Rattle.reply.specs.Targets.{conversion_target, conversion_target_parts_or_unit}
 use Rattle.column_convert.specs.Cells.{cell_conversion_text, cell_options}
 use Rattle.column_convert.specs.Products.{cell_product_text, signed_cell_text}
-use Rattle.column_convert.specs.Worths.{CellReplyLaw, cell_product_inquiry, cell_product_worth}
+use Rattle.column_convert.specs.CellValues.{CellReplyLaw, cell_product_inquiry, value_of_cell_product}
 use Rattle.column_convert.proofs.Replies.{product_converting}
-use Rattle.column_convert.proofs.Worths.{column_text_tree_value}
+use Rattle.column_convert.proofs.CellValues.{column_text_tree_value}
 
 -- a text with a value, and the queries and answer that follow from it
 column_target_has_value : {B : Type 0} (table : EntryTable) (to : List ℕ) (g : Syntax) (y : Amount)
     (next : Amount → Result B ReplyFault)
     → parse_of None to ≡ Ok g → live_table_answer table g ≡ Ok y
-    → inquiry_after (text_worth table to).events (text_worth table to).answer (λ z. inquiry_without_queries (next z))
+    → inquiry_after (value_of_text table to).events (value_of_text table to).answer
+    (λ z. inquiry_without_queries (next z))
     ≡ record { events = AsksWords (words_in g) ∷ []; answer = next y }
 column_target_has_value table to g y next tree is =
     ap (λ (q : Inquiry Amount). inquiry_after q.events q.answer (λ z. inquiry_without_queries (next z)))
@@ -89,10 +90,10 @@ cell_reply_law table options negative text d from to f g x y p is factor values 
     first : (cell_product_inquiry table negative d f).answer ≡ Ok p
     first =
         ap (λ o. inquiry_answer
-        (live_answer_of_worth o (cell_product_worth negative d (value (expansion table f) None)))) values.from_named
-        ∙ ap (λ (w : ValueOrFault). inquiry_answer (live_answer_of_worth None (cell_product_worth negative d w)))
+        (live_answer_of_value o (value_of_cell_product negative d (value (expansion table f) None)))) values.from_named
+        ∙ ap (λ (w : ValueOrFault). inquiry_answer (live_answer_of_value None (value_of_cell_product negative d w)))
         values.from_has_value
-        ∙ ap (λ (w : ValueOrFault). inquiry_answer (live_answer_of_worth None w)) product
+        ∙ ap (λ (w : ValueOrFault). inquiry_answer (live_answer_of_value None w)) product
 
     all : conversion_inquiry table (cell_options options) (cell_product_text (signed_cell_text negative text) from) to
         ≡ record { events = AsksWords (words_in f) ∷ AsksWords (words_in g) ∷ []; answer = conversion_between true p y }

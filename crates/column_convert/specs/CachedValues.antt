@@ -26,7 +26,7 @@ use Rattle.column_convert.specs.declared.signed_number.Signed.{Signed}
 use Rattle.column_convert.specs.Cells.{cell_of_reply, cell_text_after_minus, is_signed_cell_numeral, number_queries}
 use Rattle.column_convert.specs.Cells.{number_reply}
 use Rattle.column_convert.specs.Products.{IsCellFactor, IsCellNumeral, cell_product_text, signed_cell_text}
-use Rattle.column_convert.specs.Worths.{AreColumnTextsValued}
+use Rattle.column_convert.specs.CellValues.{AreColumnTextsValued}
 
 -- a text is this number
 pub record IsCellNumber (text : List ℕ) (n : Signed) : Type 0 where

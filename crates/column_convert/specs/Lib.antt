@@ -1,7 +1,7 @@
 pub mod Records
 pub mod Products
 pub mod Cells
-pub mod Worths
+pub mod CellValues
 pub mod CachedValues
 pub mod Inputs
 pub mod Rows

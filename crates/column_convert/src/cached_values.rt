@@ -8,7 +8,7 @@ ghost use Rattle.live_table.specs.Answers.{live_table_answer};
 ghost use Rattle.live_table.specs.Calls.{AreLiveQueries};
 ghost use Rattle.live_table.specs.States.{AsksWords};
 ghost use Rattle.column_convert.specs.CachedValues as spec;
-ghost use Rattle.column_convert.specs.Worths.{cell_product_worth};
+ghost use Rattle.column_convert.specs.CellValues.{value_of_cell_product};
 
 use crate::plain::{PlainTrees, plain_trees};
 use crate::signed_number::Signed;
@@ -116,7 +116,7 @@ pub(crate) fn product(
     n: &Signed,
     x: &Quantity,
 ) -> Result<Option<Quantity>, AllocError>
-    ensures { IfOk result (λ p. IfSome p (λ p. cell_product_worth n.now.negative n.now.numeral (Ok x.now) ≡ Ok p)) }
+    ensures { IfOk result (λ p. IfSome p (λ p. value_of_cell_product n.now.negative n.now.numeral (Ok x.now) ≡ Ok p)) }
 {
     let Ok(value) = n.numeral.value() else {
         return Ok(None);

@@ -4,7 +4,7 @@ ghost use Rattle.column_convert.specs.Blocks.{RowBlocksLaw};
 ghost use Rattle.column_convert.specs.Examples.{ColumnExamplesLaw};
 ghost use Rattle.column_convert.specs.Products.{CellProductLaw};
 ghost use Rattle.column_convert.specs.Rows.{ColumnRowsLaw};
-ghost use Rattle.column_convert.specs.Worths.{CellQueriesAgainLaw, CellReplyLaw, CellWorthLaw};
+ghost use Rattle.column_convert.specs.CellValues.{CellQueriesAgainLaw, CellReplyLaw, CellValueLaw};
 
 /// The rows are the next row and the rows after it, and so are the queries made for them.
 pub fn rows_law()
@@ -27,8 +27,8 @@ pub fn product_law()
 {}
 
 /// The reply to the conversion of a number times an expression follows from the value of the expression.
-pub fn worth_law()
-    ensures { CellWorthLaw }
+pub fn cell_value_law()
+    ensures { CellValueLaw }
 {}
 
 /// The reply to a number follows from the values of FROM and TO.

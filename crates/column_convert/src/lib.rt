@@ -16,4 +16,6 @@ mod signed_number;
 
 pub use block::Block;
 pub use columns::Columns;
-pub use laws::{again_law, blocks_law, examples_law, product_law, rows_law, valued_law, worth_law};
+pub use laws::{
+    again_law, blocks_law, cell_value_law, examples_law, product_law, rows_law, valued_law,
+};

@@ -17,7 +17,7 @@ pub(crate) const MOST_INPUT: usize = 16_777_216;
 
 /// Returns all bytes of a source, up to its end.
 pub(crate) fn read_input<S: Source>(alloc: Global, src: &mut S) -> Result<Text, ColumnEnd>
-    ensures told { (input : List ℕ) → S.left src.old ≡ Some input →
+    ensures if_known { (input : List ℕ) → S.left src.old ≡ Some input →
         IfOk result (λ text. (text ≡ input) × (S.left src.new ≡ Some [])) }
     ensures read { IsErrOf result end.ReadFault → HasIoCountRisen (S.faults src.old) (S.faults src.new) }
     ensures too_long { IsErrOf result end.InputTooLong →
@@ -34,7 +34,7 @@ pub(crate) fn read_input<S: Source>(alloc: Global, src: &mut S) -> Result<Text, 
 fn read_by<S: Source>(alloc: Global, src: &mut S, block: &mut [u8]) -> Result<Text, ColumnEnd>
     requires some { 0 < length block.old }
     requires small { length block.old ≤ 65536 }
-    ensures told { (input : List ℕ) → S.left src.old ≡ Some input →
+    ensures if_known { (input : List ℕ) → S.left src.old ≡ Some input →
         IfOk result (λ text. (text ≡ input) × (S.left src.new ≡ Some [])) }
     ensures read { IsErrOf result end.ReadFault → HasIoCountRisen (S.faults src.old) (S.faults src.new) }
     ensures too_long { IsErrOf result end.InputTooLong →
@@ -53,7 +53,7 @@ fn take_all<S: Source>(src: &mut S, block: &mut [u8], text: &mut Vec<u8>) -> Res
     requires some { 0 < length block.old }
     requires small { length block.old ≤ 65536 }
     requires empty { text.old.items ≡ [] }
-    ensures told { (input : List ℕ) → S.left src.old ≡ Some input →
+    ensures if_known { (input : List ℕ) → S.left src.old ≡ Some input →
         OnOk result ((text.new.items ≡ input) × (S.left src.new ≡ Some [])) }
     ensures read { IsErrOf result end.ReadFault → HasIoCountRisen (S.faults src.old) (S.faults src.new) }
     ensures too_long { IsErrOf result end.InputTooLong →

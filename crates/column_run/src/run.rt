@@ -28,7 +28,7 @@ impl ColumnTask {
     ) -> ColumnEnd
         requires printable { AreReplyOptionsPrintable self.old.options }
         requires column { 1 ≤ self.old.column }
-        ensures told { (input : List ℕ) → S.left src.old ≡ Some input →
+        ensures if_known { (input : List ℕ) → S.left src.old ≡ Some input →
             AreColumnRunRowsWritten (spec.column_run_rows_of_bytes self.old input) result (O.written out.old)
             (O.written out.new) }
         ensures queries { (input : List ℕ) → S.left src.old ≡ Some input → is_column_run_over result ≡ true →

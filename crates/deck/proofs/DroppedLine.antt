@@ -72,11 +72,13 @@ module _ (settings : Settings) (store : LineStoreView) (notices : List (List ℕ
       cover_left settings store.lines place k defines.0 defines.1 was covered are left those given rest_is
 
   module _ (n : KeyNumber)
-      (told : Some (key_numbered store.names n) ≡ option_map (λ e. Some e.0) (store_definition_at store.lines place))
+      (defines_key : Some (key_numbered store.names n) ≡ option_map (λ e. Some e.0)
+      (store_definition_at store.lines place))
     where
       -- the number of the line is the number of the key
       numbered : key_numbered store.names n ≡ Some k
-      numbered = same_Some (key_numbered store.names n) (Some k) (told ∙ ap (option_map (λ e. Some e.0)) defines.1)
+      numbered = same_Some (key_numbered store.names n) (Some k)
+          (defines_key ∙ ap (option_map (λ e. Some e.0)) defines.1)
 
       -- the number is within the places
       pub room_drop : (old : LastPlaces) → IsDeckIndexed store settings old

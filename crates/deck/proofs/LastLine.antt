@@ -29,7 +29,8 @@ module _ (settings : Settings) (store : LineStoreView) (notices : List (List ℕ
     (view : record { lines = store.lines; settings = settings; notices = notices } ≡ d)
     (uncovered : Option ℕ) (can : CanUndefineDeckLine uncovered d) (len : ℕ) (count : len ≡ length store.lines)
     (numbering : IsKeyNumbering store) (last : LastPlaces) (indexed : IsDeckIndexed store settings last) (n : KeyNumber)
-    (told : Some (key_numbered store.names n) ≡ option_map (λ e. Some e.0) (store_definition_at store.lines (len - 1)))
+    (defines_key : Some (key_numbered store.names n) ≡ option_map (λ e. Some e.0)
+    (store_definition_at store.lines (len - 1)))
   where
     split : store.lines ≡ can.lines_before ++ can.line ∷ []
     split = ap (λ (c : DeckContents). c.lines) view ∙ can.lines
@@ -47,7 +48,7 @@ module _ (settings : Settings) (store : LineStoreView) (notices : List (List ℕ
     numbered : key_numbered store.names n ≡ Some can.key
     numbered =
         same_Some (key_numbered store.names n) (Some can.key)
-        (told ∙ ap (λ p. option_map (λ e. Some e.0) (store_definition_at store.lines p)) at_end
+        (defines_key ∙ ap (λ p. option_map (λ e. Some e.0) (store_definition_at store.lines p)) at_end
         ∙ ap (option_map (λ e. Some e.0))
         (defined_there settings store can.lines_before can.line can.key can.entry split can.defines numbering last
         indexed))

@@ -260,8 +260,8 @@ deck_front_without_last_line lines front x n is count =
 pub text_of_last_deck_line : (lines stored : List DeckLine) (n : ℕ) (y : DeckLine) (text : List ℕ) → stored ≡ lines
     → n ≡ length lines → slice_get stored (n - 1) ≡ Some y → text ≡ y.text →
     (front : List DeckLine) (x : DeckLine) → lines ≡ front ++ x ∷ [] → text ≡ x.text
-text_of_last_deck_line lines stored n y text same count got told front x is =
-    told ∙ ap (λ (l : DeckLine). l.text) (same_Some y x
+text_of_last_deck_line lines stored n y text same count got defines_key front x is =
+    defines_key ∙ ap (λ (l : DeckLine). l.text) (same_Some y x
     (sym got ∙ ap (λ m. slice_get stored m) (place_of_last_deck_line lines front x n is count)
     ∙ ap (λ ls. slice_get ls (length front))
     (same ∙ is) ∙ at_length front x []))

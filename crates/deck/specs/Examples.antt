@@ -71,7 +71,7 @@ pub record DeckExamplesLaw : Type 0 where
       (deck_unit (codes "g")) ≡ Some 2
   pub no_last_place : last_definition_place (settings_with_size (codes "en_GB") (codes "small")) example_deck_all_lines
       (deck_unit (codes "g")) ≡ None
-  pub untold : last_definition_place (settings_in_locale (codes "en_US")) example_deck_all_lines
+  pub no_place_of_refused_line : last_definition_place (settings_in_locale (codes "en_US")) example_deck_all_lines
       (deck_unit (codes "h")) ≡ None
   -- a line that is appended, and two lines that are refused
   pub defined_line : deck_after_defining (codes "h 2 g")

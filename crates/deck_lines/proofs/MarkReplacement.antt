@@ -141,41 +141,43 @@ module _ (ls : List Line) (ms : List Bool) (bytes : ℕ) (kept : IsWithinStoreLi
     (lines put : List DeckLine)
     (at cut : ℕ) (are : store_lines_with_marks ls ms ≡ lines) (h : at + cut ≤ length lines)
     (within : pass_store_limit (take at lines ++ (put ++ drop (at + cut) lines)) ≡ false) where
-  pub told_places : at + cut ≤ length ls
-  told_places = omega (arith, h, ap length are, store_marks_len ls ms kept.mark_count)
+  pub places_within : at + cut ≤ length ls
+  places_within = omega (arith, h, ap length are, store_marks_len ls ms kept.mark_count)
 
-  told_within : pass_store_limit
+  within_store_limit : pass_store_limit
       (take at (store_lines_with_marks ls ms) ++ (put ++ drop (at + cut) (store_lines_with_marks ls ms))) ≡ false
-  told_within = ap (λ (t : List DeckLine). pass_store_limit (take at t ++ (put ++ drop (at + cut) t))) are ∙ within
+  within_store_limit = ap (λ (t : List DeckLine). pass_store_limit (take at t ++ (put ++ drop (at + cut) t))) are
+      ∙ within
 
   -- the replaced lines
-  pub told_gone : (gone : List DeckLine) → gone ≡ store_lines_with_marks (take cut (drop at ls)) (take cut (drop at ms))
+  pub gone_are_marked : (gone : List DeckLine) → gone ≡ store_lines_with_marks (take cut (drop at ls))
+      (take cut (drop at ms))
       → gone ≡ take cut (drop at lines)
-  told_gone gone is =
-      is ∙ gone_marked ls ms bytes kept put at cut told_places told_within
+  gone_are_marked gone is =
+      is ∙ gone_marked ls ms bytes kept put at cut places_within within_store_limit
       ∙ ap (λ (t : List DeckLine). take cut (drop at t)) are
 
-  pub told_small : stored_text_len (take cut (drop at lines)) ≤ bytes
-  told_small =
+  pub gone_text_is_small : stored_text_len (take cut (drop at lines)) ≤ bytes
+  gone_text_is_small =
       subst (λ (t : List DeckLine). stored_text_len (take cut (drop at t)) ≤ bytes) are
-      (gone_small ls ms bytes kept put at cut told_places told_within)
+      (gone_small ls ms bytes kept put at cut places_within within_store_limit)
 
   -- the marked lines after the replacement are the lines after the replacement
-  pub told_exchanged : (ls' : List Line) (ms' : List Bool)
+  pub exchanged_are_marked : (ls' : List Line) (ms' : List Bool)
       → ls' ≡ take at ls ++ (map store_line_without_mark put ++ drop (at + cut) ls)
       → ms' ≡ take at ms ++ (map mark_of_store_line put ++ drop (at + cut) ms) →
       store_lines_with_marks ls' ms' ≡ take at lines ++ (put ++ drop (at + cut) lines)
-  told_exchanged ls' ms' p q =
-      exchanged ls ms bytes kept put at cut told_places told_within ls' ms' p q
+  exchanged_are_marked ls' ms' p q =
+      exchanged ls ms bytes kept put at cut places_within within_store_limit ls' ms' p q
       ∙ ap (λ (t : List DeckLine). take at t ++ (put ++ drop (at + cut) t)) are
 
   -- the lines after the replacement are within the limits
-  pub told_kept : (ls' : List Line) (ms' : List Bool) (len some : ℕ) (gone : List DeckLine)
+  pub rest_is_marked : (ls' : List Line) (ms' : List Bool) (len some : ℕ) (gone : List DeckLine)
       → ls' ≡ take at ls ++ (map store_line_without_mark put ++ drop (at + cut) ls)
       → ms' ≡ take at ms ++ (map mark_of_store_line put ++ drop (at + cut) ms) →
       len ≡ stored_text_len put → gone ≡ store_lines_with_marks (take cut (drop at ls)) (take cut (drop at ms))
       → some ≡ stored_text_len gone
       → IsWithinStoreLimit ls' ms' (bytes + len - some)
-  told_kept ls' ms' len some gone p q e is f =
-      within_exchanged ls ms bytes kept put at cut told_places told_within ls' ms' len some p q e
-      (f ∙ ap stored_text_len (is ∙ gone_marked ls ms bytes kept put at cut told_places told_within))
+  rest_is_marked ls' ms' len some gone p q e is f =
+      within_exchanged ls ms bytes kept put at cut places_within within_store_limit ls' ms' len some p q e
+      (f ∙ ap stored_text_len (is ∙ gone_marked ls ms bytes kept put at cut places_within within_store_limit))

@@ -9,4 +9,4 @@ abbrev pub seen_store_line_reading : List ℕ → LineReading → StoreLineReadi
 seen_store_line_reading text (line.Stands role) = Stands role
 seen_store_line_reading text (line.Defines key what) = Defines (seen_entry text (key, what))
 seen_store_line_reading text (line.Includes name) = Includes name.now
-seen_store_line_reading text (line.Faulty told) = Faulty told
+seen_store_line_reading text (line.Faulty reason) = Faulty reason

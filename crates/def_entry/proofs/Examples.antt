@@ -51,5 +51,5 @@ entry_examples = record {
   faults = example_entry_faults;
   keys_read =
       example_key_spellings_read;
-  faults_told = entry_fault_texts_hold;
+  entry_texts = entry_fault_texts_hold;
 }

@@ -59,8 +59,8 @@ spelling_last_byte_after w bs h =
     ∙ ap (λ n. get_or bs n 0) (omega (arith, length-append w bs))
 
 -- the kind that the last and the first byte indicate
-abbrev told_by : ℕ → ℕ → Kind
-told_by last first = if last == 41 then kind.Func
+abbrev kind_by_bytes : ℕ → ℕ → Kind
+kind_by_bytes last first = if last == 41 then kind.Func
     else (if last == 45 then kind.Prefix else (if first == 33 then kind.List else kind.Unit))
 
 -- if neither test holds, the choice is the last kind
@@ -73,7 +73,7 @@ spelling_kind_if_neither false true k e f = absurd (true≢false f)
 
 -- a key that ends in a word byte is a list or a unit
 spelling_kind_without_mark : (last first : ℕ) → is_word_byte last ≡ true
-    → told_by last first ≡ (if first == 33 then kind.List else kind.Unit)
+    → kind_by_bytes last first ≡ (if first == 33 then kind.List else kind.Unit)
 spelling_kind_without_mark last first h =
     spelling_kind_if_neither (last == 41) (last == 45) _ (spelling_bytes_differ_by_test is_word_byte 41 last refl h)
     (spelling_bytes_differ_by_test is_word_byte 45 last refl h)
@@ -84,11 +84,11 @@ spelling_shows_kind kind.Unit w h =
     spelling_kind_without_mark (last_byte w) (slice_index w 0) (spelled_name_last_byte w h)
     ∙ ap (λ b. if b then kind.List else kind.Unit) (spelled_name_parts w h).1
 spelling_shows_kind kind.Prefix w h =
-    ap (λ b. told_by b (slice_index (w ++ codes "-") 0)) (spelling_last_byte_after w (codes "-") (omega arith))
+    ap (λ b. kind_by_bytes b (slice_index (w ++ codes "-") 0)) (spelling_last_byte_after w (codes "-") (omega arith))
 spelling_shows_kind kind.Func w h =
-    ap (λ b. told_by b (slice_index (w ++ codes "()") 0)) (spelling_last_byte_after w (codes "()") (omega arith))
+    ap (λ b. kind_by_bytes b (slice_index (w ++ codes "()") 0)) (spelling_last_byte_after w (codes "()") (omega arith))
 spelling_shows_kind kind.List w h =
-    ap (λ b. told_by b 33) (spelling_last_byte_after (codes "!unitlist ") w (spelled_name_parts w h).0)
+    ap (λ b. kind_by_bytes b 33) (spelling_last_byte_after (codes "!unitlist ") w (spelled_name_parts w h).0)
     ∙ spelling_kind_without_mark (last_byte w) 33 (spelled_name_last_byte w h)
 
 -- the text of a key of this kind contains its name

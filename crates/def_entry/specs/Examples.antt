@@ -138,4 +138,4 @@ pub record EntryExamplesLaw : Type 0 where
   pub entries : EntriesLaw
   pub faults : EntryFaultsLaw
   pub keys_read : KeySpellingsLaw
-  pub faults_told : EntryFaultTextsLaw
+  pub entry_texts : EntryFaultTextsLaw

@@ -82,8 +82,9 @@ pub line_files_of_passed_include : {E : Type 0} (r : Result (Unit {0}) E) (files
     store_line_reading_of line.text ≡ Includes word → mid ≡ before ++ file ∷ [] → name ≡ included_name file word →
     OnOk r (after ≡ mid ++ line_file_names (file_lines_below files depth name))
     → OnOk r (after ≡ before ++ line_file_names (file_lines_of_line files depth file blocks line))
-line_files_of_passed_include (Ok u) files depth file name word line blocks before mid after reading middle named told =
-    told
+line_files_of_passed_include (Ok u) files depth file name word line blocks before mid after reading middle named
+    same_lines =
+    same_lines
     ∙ ap (λ ns. ns ++ line_file_names (file_lines_below files depth name)) middle
     ∙ append_assoc before (file ∷ []) (line_file_names (file_lines_below files depth name))
     ∙ ap (λ ns. before ++ ns) (sym (line_files_of_include files depth name file line))
@@ -91,8 +92,9 @@ line_files_of_passed_include (Ok u) files depth file name word line blocks befor
     (file_lines_of_include file line (included_below files depth n) (file_lines_below files depth n))) named
     ∙ ap (λ r. before ++ line_file_names (line_lines (included_by files depth file)
     (λ w. file_lines_below files depth (included_name file w)) file blocks line r)) (sym reading)
-line_files_of_passed_include (Err e) files depth file name word line blocks before mid after reading middle named told =
-    told
+line_files_of_passed_include (Err e) files depth file name word line blocks before mid after reading middle named
+    same_lines =
+    same_lines
 
 -- at the maximum depth an include adds no lines
 pub no_file_lines_below_depth : (files : FileMap) (depth : ℕ) (name : List ℕ) → depth ≡ 0 → (before : List (List ℕ))

@@ -54,7 +54,7 @@ pub mod EmptyTable
 pub mod StillExplored
 pub mod StopAnswers
 pub mod NodeReports
-pub mod ToldWords
+pub mod ReportedWords
 pub mod TriedNumbers
 pub mod TriedLookups
 pub mod UsedNames

@@ -53,9 +53,10 @@ use Rattle.live_table.proofs.DeckTables.{live_deck_entries_fit_kinds}
 use Rattle.live_table.proofs.OutcomesByKey.{key_settled, right_outcome, settled_within}
 use Rattle.live_table.proofs.Parts.{IsStepped, node_word_has_two_steps, part_words_are_in_node_entry}
 use Rattle.live_table.proofs.Places.{element}
-use Rattle.live_table.proofs.ToldWords.{IsLedBy, function_node_has_callee, function_node_is_callee}
-use Rattle.live_table.proofs.ToldWords.{node_callee_has_name_of_key, node_callee_is_its_meaning, set_mark_is_settled}
-use Rattle.live_table.proofs.ToldWords.{settled_number_has_set_mark, to_first}
+use Rattle.live_table.proofs.ReportedWords.{IsLedBy, function_node_has_callee, function_node_is_callee}
+use Rattle.live_table.proofs.ReportedWords.{node_callee_has_name_of_key, node_callee_is_its_meaning}
+use Rattle.live_table.proofs.ReportedWords.{set_mark_is_settled}
+use Rattle.live_table.proofs.ReportedWords.{settled_number_has_set_mark, to_first}
 use Rattle.general_lemmas.proofs.Members.{member_first, member_at}
 
 -- a settled number is at hand
@@ -171,10 +172,10 @@ module _ (deck : DeckContents) (l : NodeLists) (asked : Asked) (is : AreRightNod
   settled_right n e = right_outcome deck l 0 is.numbers is.is_right n e
 
   -- the stored outcome is that of its key
-  pub outcome_told : (v : NodeScene) → node_scene deck l asked ≡ v → (n : ℕ) → IsSettledInGraph v.settled_flags n
+  pub outcome_is_reported : (v : NodeScene) → node_scene deck l asked ≡ v → (n : ℕ) → IsSettledInGraph v.settled_flags n
       → (found : Option Outcome) → found ≡ get_or l.outcomes n found
       → (o : Outcome) → found ≡ Some o → o ≡ outcome (table_of_deck v.deck) (node_key_at v.keys n)
-  outcome_told v seen n e found at o there =
+  outcome_is_reported v seen n e found at o there =
       let h : slice_get l.outcomes n ≡ Some (Some (outcome (table_of_deck deck) (key n))) =
       settled_right n (subst (λ (x : NodeScene). IsSettledInGraph x.settled_flags n) (sym seen) e) in
       let g : get_or l.outcomes n found ≡ Some (outcome (table_of_deck deck) (key n)) =

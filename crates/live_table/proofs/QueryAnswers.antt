@@ -6,7 +6,7 @@ use Rattle.tree_eval.specs.Steps.{ValueOrFault}
 use Rattle.table_names.specs.declared.fault.NameFault.{NameFault}
 use Rattle.live_table.specs.declared.fault.QueryFault.{QueryFault}
 use Rattle.live_table.specs.declared.fault.QueryFault.TheVariants.{Name, Value, OutOfMemory}
-use Rattle.live_table.specs.Answers.{IsLiveQueryResult, live_answer_of_worth}
+use Rattle.live_table.specs.Answers.{IsLiveQueryResult, live_answer_of_value}
 use Rattle.live_table.specs.QueryEffects.{IsLiveQueryEffect}
 use Rattle.live_table.specs.Calls.{IsLiveQuery}
 use Rattle.live_table.specs.TableView.{LiveView}
@@ -14,12 +14,14 @@ use Rattle.live_table.specs.States.{LiveEvent}
 
 module _ {A : Type 0} (event : LiveEvent) (fault : Option NameFault) (Given : A → Type 0) (before now : LiveView)
     (old new : ℕ) where
-  pub fault_answer : (worth : ValueOrFault) (q : QueryFault) → IsLiveQueryEffect event fault Given (Err q) before now
+  pub fault_answer : (value_or_fault : ValueOrFault) (q : QueryFault) → IsLiveQueryEffect event fault Given
+      (Err q) before now
       old new
-      → IsLiveQueryResult (Err q) (live_answer_of_worth fault worth)
-  fault_answer worth (Name f) a = inr (sym (ap (λ (o : Option NameFault). live_answer_of_worth o worth) a.0))
-  fault_answer worth (Value v) a = absurd a
-  fault_answer worth OutOfMemory a = inl refl
+      → IsLiveQueryResult (Err q) (live_answer_of_value fault value_or_fault)
+  fault_answer value_or_fault (Name f) a =
+      inr (sym (ap (λ (o : Option NameFault). live_answer_of_value o value_or_fault) a.0))
+  fault_answer value_or_fault (Value v) a = absurd a
+  fault_answer value_or_fault OutOfMemory a = inl refl
 
   pub fault_query : (q : QueryFault) → IsLiveQueryEffect event fault Given (Err q) before now old new
       → IsLiveQuery event (Err q) before now old new
@@ -28,8 +30,10 @@ module _ {A : Type 0} (event : LiveEvent) (fault : Option NameFault) (Given : A 
   fault_query OutOfMemory a = a
 
 -- if there is no name fault, the result of the query is that of the evaluation
-pub live_answer_without_name_fault : (fault : Option NameFault) (worth : ValueOrFault) (r : Result Amount QueryFault)
+pub live_answer_without_name_fault : (fault : Option NameFault) (value_or_fault : ValueOrFault)
+    (r : Result Amount QueryFault)
     → fault ≡ None
-    → IsLiveQueryResult r (live_answer_of_worth None worth) → IsLiveQueryResult r (live_answer_of_worth fault worth)
-live_answer_without_name_fault fault worth r e a =
-    subst (λ (o : Option NameFault). IsLiveQueryResult r (live_answer_of_worth o worth)) (sym e) a
+    → IsLiveQueryResult r (live_answer_of_value None value_or_fault)
+    → IsLiveQueryResult r (live_answer_of_value fault value_or_fault)
+live_answer_without_name_fault fault value_or_fault r e a =
+    subst (λ (o : Option NameFault). IsLiveQueryResult r (live_answer_of_value o value_or_fault)) (sym e) a

@@ -40,8 +40,8 @@ use Rattle.live_table.proofs.OutcomesByKey.{settled_within}
 use Rattle.live_table.proofs.Places.{element}
 use Rattle.live_table.proofs.SettleOne.{surrounded}
 use Rattle.live_table.proofs.NodeReports.{at_hand, key_settled_words, led_by, meaning_is, subject_is_settled_or_queried}
-use Rattle.live_table.proofs.ToldWords.{IsLedBy, cached_worth_is_not_callable, first_same, not_both, second_same}
-use Rattle.live_table.proofs.ToldWords.{stands}
+use Rattle.live_table.proofs.ReportedWords.{IsLedBy, cached_value_is_not_callable, first_same, not_both, second_same}
+use Rattle.live_table.proofs.ReportedWords.{stands}
 use Rattle.general_lemmas.proofs.Members.{member_later}
 
 -- ---- by the entry
@@ -67,8 +67,8 @@ node_rank_is_above_its_words means name (what.Alias target) e = alias_node_rank_
 -- a meaning whose outcome is `Callable` is a function
 pub callable_outcome_is_node_callee : (m : EvalMeaning) → outcome_of_eval_meaning m ≡ outcomes.Callable
     → is_node_callee m ≡ true
-callable_outcome_is_node_callee (One x) h = absurd (cached_worth_is_not_callable (value x None) h)
-callable_outcome_is_node_callee (Two x y) h = absurd (cached_worth_is_not_callable (value (Prefixed x y) None) h)
+callable_outcome_is_node_callee (One x) h = absurd (cached_value_is_not_callable (value x None) h)
+callable_outcome_is_node_callee (Two x y) h = absurd (cached_value_is_not_callable (value (Prefixed x y) None) h)
 callable_outcome_is_node_callee (Callee f) h = refl
 
 -- equal ranks are equal to their maximum

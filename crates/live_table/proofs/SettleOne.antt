@@ -50,7 +50,7 @@ use Rattle.live_table.proofs.New.{newly_settled_law}
 use Rattle.live_table.proofs.Events.{event_keeps_live_state_right}
 use Rattle.live_table.proofs.Places.{element}
 use Rattle.live_table.proofs.NodeReports.{key_settled_words, led_by, settled_has_settled_targets}
-use Rattle.live_table.proofs.ToldWords.{IsLedBy}
+use Rattle.live_table.proofs.ReportedWords.{IsLedBy}
 use Rattle.general_lemmas.proofs.Places.{get_set_same, get_set_other}
 use Rattle.general_lemmas.proofs.Members.{no_member, member_first, member_cases}
 

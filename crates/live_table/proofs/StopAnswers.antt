@@ -17,7 +17,7 @@ use Rattle.live_table.specs.declared.fault.QueryFault.{QueryFault}
 use Rattle.live_table.specs.declared.fault.QueryFault.TheVariants as fault
 use Rattle.live_table.specs.declared.stop.Stop.{Stop}
 use Rattle.live_table.specs.declared.stop.Stop.TheVariants.{At, Below, OutOfMemory}
-use Rattle.live_table.specs.Answers.{live_answer_of_worth, live_answer_value}
+use Rattle.live_table.specs.Answers.{live_answer_of_value, live_answer_value}
 use Rattle.live_table.specs.Answers as spec
 use Rattle.live_table.specs.QueryEffects.{IsLiveQueryAnswered, IsLiveQueryEffect, live_query_fault}
 use Rattle.live_table.specs.Calls.{AreLiveQueries, IsLiveQuery}
@@ -162,12 +162,12 @@ live_stop_at_cut t l ends fs query end none = record {
 module _ {A : Type 0} (event : LiveEvent) (name : Option NameFault) (Given : A → Type 0) (before now : LiveView)
     (old new : ℕ) (q : QueryFault) (asked : IsLiveQueryEffect event name Given (Err q) before now old new) where
   -- the result is the fault, or lack of memory
-  pub named_answer : (worth : ValueOrFault) (r : QueryFault) → (r ≡ fault.OutOfMemory) ⊎ (r ≡ q)
-      → spec.IsLiveQueryResult (Err r) (live_answer_of_worth name worth)
-  named_answer worth r (inl e) = inl (ap Err e)
-  named_answer worth r (inr e) =
-      subst (λ (x : QueryFault). spec.IsLiveQueryResult (Err x) (live_answer_of_worth name worth)) (sym e)
-      (fault_answer event name Given before now old new worth q asked)
+  pub named_answer : (value_or_fault : ValueOrFault) (r : QueryFault) → (r ≡ fault.OutOfMemory) ⊎ (r ≡ q)
+      → spec.IsLiveQueryResult (Err r) (live_answer_of_value name value_or_fault)
+  named_answer value_or_fault r (inl e) = inl (ap Err e)
+  named_answer value_or_fault r (inr e) =
+      subst (λ (x : QueryFault). spec.IsLiveQueryResult (Err x) (live_answer_of_value name value_or_fault)) (sym e)
+      (fault_answer event name Given before now old new value_or_fault q asked)
 
   cut_query : now.deck ≡ before.deck → (p : QueryFault) → IsLiveQueryEffect event name Given (Err p) before now old new
       → IsLiveQuery event (Err fault.OutOfMemory) before now old new
@@ -249,20 +249,20 @@ module _ {A : Type 0} (t : EntryTable) (l : NodeLists) (ends : List DeadEnd) (fs
 module _ {A : Type 0} (event : LiveEvent) (name : Option NameFault) (Given : A → Type 0) (before now : LiveView)
     (old new : ℕ) (same : now.deck ≡ before.deck) where
   -- there is no value if the names have a fault
-  pub no_value_in : (worth : ValueOrFault) (q : QueryFault) → (q ≡ fault.OutOfMemory → ⊥)
+  pub no_value_in : (value_or_fault : ValueOrFault) (q : QueryFault) → (q ≡ fault.OutOfMemory → ⊥)
       → IsLiveQueryEffect event name Given (Err q) before now old new
-      → None ≡ live_answer_value (live_answer_of_worth name worth)
-  no_value_in worth (fault.Name f) some a =
-      ap (λ (o : Option NameFault). live_answer_value (live_answer_of_worth o worth)) (sym a.0)
-  no_value_in worth (fault.Value v) some a = absurd a
-  no_value_in worth fault.OutOfMemory some a = absurd (some refl)
+      → None ≡ live_answer_value (live_answer_of_value name value_or_fault)
+  no_value_in value_or_fault (fault.Name f) some a =
+      ap (λ (o : Option NameFault). live_answer_value (live_answer_of_value o value_or_fault)) (sym a.0)
+  no_value_in value_or_fault (fault.Value v) some a = absurd a
+  no_value_in value_or_fault fault.OutOfMemory some a = absurd (some refl)
 
-  pub none_value : (done : Result (Option Amount) AllocError) (worth : ValueOrFault) (q : QueryFault)
+  pub none_value : (done : Result (Option Amount) AllocError) (value_or_fault : ValueOrFault) (q : QueryFault)
       → IfOk done (λ x. x ≡ None) → OnOk done (q ≡ fault.OutOfMemory → ⊥)
       → IsLiveQueryEffect event name Given (Err q) before now old new
-      → IfOk done (λ x. x ≡ live_answer_value (live_answer_of_worth name worth))
-  none_value (Ok x) worth q is some a = is ∙ no_value_in worth q some a
-  none_value (Err e) worth q is some a = is
+      → IfOk done (λ x. x ≡ live_answer_value (live_answer_of_value name value_or_fault))
+  none_value (Ok x) value_or_fault q is some a = is ∙ no_value_in value_or_fault q some a
+  none_value (Err e) value_or_fault q is some a = is
 
   pub no_value_queries : (done : Result (Option Amount) AllocError) (q : QueryFault)
       → OnOk done (q ≡ fault.OutOfMemory → ⊥) → OnErr done (q ≡ fault.OutOfMemory)

@@ -16,26 +16,26 @@ use Rattle.live_table.specs.declared.fault.QueryFault.{QueryFault}
 use Rattle.live_table.specs.declared.fault.QueryFault.TheVariants.{Name, Value, OutOfMemory}
 
 -- the name fault if there is one, and else the value or its first fault
-abbrev pub live_answer_of_worth : Option NameFault → ValueOrFault → Result Amount QueryFault
-live_answer_of_worth (Some fault) worth = Err (Name fault)
-live_answer_of_worth None (Ok q) = Ok q
-live_answer_of_worth None (Err fault) = Err (Value fault)
+abbrev pub live_answer_of_value : Option NameFault → ValueOrFault → Result Amount QueryFault
+live_answer_of_value (Some fault) value_or_fault = Err (Name fault)
+live_answer_of_value None (Ok q) = Ok q
+live_answer_of_value None (Err fault) = Err (Value fault)
 
 -- the result of a query of a tree
 abbrev pub live_table_answer : EntryTable → Syntax → Result Amount QueryFault
-live_table_answer table e = live_answer_of_worth (name_fault table (words_in e)) (value (expansion table e) None)
+live_table_answer table e = live_answer_of_value (name_fault table (words_in e)) (value (expansion table e) None)
 
 -- the inverse of a key that is a function; any other key has none
-abbrev pub live_inverse_worth : EvalMeaning → Amount → ValueOrFault
-live_inverse_worth (Callee f) b = inverse_value_at f b
-live_inverse_worth (One x) b = Ok value_one
-live_inverse_worth (Two x y) b = Ok value_one
+abbrev pub live_inverse_value : EvalMeaning → Amount → ValueOrFault
+live_inverse_value (Callee f) b = inverse_value_at f b
+live_inverse_value (One x) b = Ok value_one
+live_inverse_value (Two x y) b = Ok value_one
 
 -- the inverse of the function with this name
 abbrev pub live_inverse_answer : EntryTable → List ℕ → Amount → Result Amount QueryFault
 live_inverse_answer table name b =
-    live_answer_of_worth (key_fault table (key kind.Func name))
-    (live_inverse_worth (key_meaning table (key kind.Func name)) b)
+    live_answer_of_value (key_fault table (key kind.Func name))
+    (live_inverse_value (key_meaning table (key kind.Func name)) b)
 
 -- the result is this one, or memory ran out
 abbrev pub IsLiveQueryResult : Result Amount QueryFault → Result Amount QueryFault → Type 0

@@ -10,7 +10,7 @@ ghost use Rattle.tree_eval.specs.Answers as eval_spec;
 ghost use Rattle.tree_eval.specs.Steps.{ValueOrFault};
 ghost use Rattle.tree_eval.specs.Value.{value};
 ghost use Rattle.table_names.specs.Meanings.{expansion, key_meaning};
-ghost use Rattle.live_table.specs.Answers.{IsLiveQueryResult, live_answer_of_worth, live_inverse_worth};
+ghost use Rattle.live_table.specs.Answers.{IsLiveQueryResult, live_answer_of_value, live_inverse_value};
 ghost use Rattle.live_table.specs.Sound.{IsSoundLiveTable};
 ghost use Rattle.live_table.specs.TableContents.{node_key_at, node_lists};
 ghost use Rattle.live_table.specs.EvalInvariants.{AreSettledWords};
@@ -38,7 +38,7 @@ pub(crate) fn evaluate_tree<'a, 'w>(
     requires words { words.now ≡ words_in (syntax tree.now) }
     requires settled { AreSettledWords (table_of_deck deck.now) (node_lists nodes.now) words.now query.now }
     ensures { IsLiveQueryResult result
-        (live_answer_of_worth None (value (expansion (table_of_deck deck.now) (syntax tree.now)) None)) }
+        (live_answer_of_value None (value (expansion (table_of_deck deck.now) (syntax tree.now)) None)) }
 {
     let surroundings = Surroundings {
         deck,
@@ -60,8 +60,8 @@ pub(crate) fn evaluate_inverse<'a>(
     requires settled { IsSettledInGraph (node_lists nodes.now).settled_flags n }
     requires function { (node_key_at nodes.now.keys n).kind ≡ kind.Func }
     ensures { IsLiveQueryResult result
-        (live_answer_of_worth None
-        (live_inverse_worth (key_meaning (table_of_deck deck.now) (node_key_at nodes.now.keys n)) value.now)) }
+        (live_answer_of_value None
+        (live_inverse_value (key_meaning (table_of_deck deck.now) (node_key_at nodes.now.keys n)) value.now)) }
 {
     let surroundings = Surroundings {
         deck,
@@ -72,11 +72,11 @@ pub(crate) fn evaluate_inverse<'a>(
 }
 
 // Converts the result of an evaluation into the result of a query.
-fn query_result(worth: Result<Quantity, EvalFault>) -> Result<Quantity, QueryFault>
-    ensures { (expected : ValueOrFault) → eval_spec.IsEvalResult worth expected
-        → IsLiveQueryResult result (live_answer_of_worth None expected) }
+fn query_result(value_or_fault: Result<Quantity, EvalFault>) -> Result<Quantity, QueryFault>
+    ensures { (expected : ValueOrFault) → eval_spec.IsEvalResult value_or_fault expected
+        → IsLiveQueryResult result (live_answer_of_value None expected) }
 {
-    match worth {
+    match value_or_fault {
         Ok(q) => Ok(q),
         Err(EvalFault::Value(fault)) => Err(QueryFault::Value(fault.into_fault())),
         Err(EvalFault::OutOfMemory) => Err(QueryFault::OutOfMemory),

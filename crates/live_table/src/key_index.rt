@@ -6,7 +6,7 @@ ghost use Rattle.def_entry.specs.SameKeys.{is_entry_key_among};
 ghost use Rattle.live_table.specs.KeyIndex.{IsNodeKeyAdded, node_key_bytes};
 ghost use Rattle.live_table.specs.TableContents.{node_key_at};
 
-use crate::stored_keys::{StoredKey, is_short, kind_told, overwrite, store};
+use crate::stored_keys::{StoredKey, is_short, kind_of_byte, overwrite, store};
 use def_entry::{Key, Kind};
 use indexmap::IndexSet;
 use std::alloc::{AllocError, Global};
@@ -91,7 +91,7 @@ impl KeyIndex {
         requires { n < length self.now }
         ensures { result ≡ (node_key_at self.now n).kind }
     {
-        kind_told(self.bytes(n)[0])
+        kind_of_byte(self.bytes(n)[0])
     }
 
     /// Returns the name of the key with number `n`.

@@ -57,7 +57,7 @@ fn kind_byte(kind: Kind) -> u8
 }
 
 /// The kind that a byte encodes.
-pub(crate) fn kind_told(byte: u8) -> Kind
+pub(crate) fn kind_of_byte(byte: u8) -> Kind
     ensures { result ≡ kind_at_key_order byte }
 {
     match byte {

@@ -17,7 +17,7 @@ use Rattle.reply.specs.declared.options.Options.{Options}
 use Rattle.reply.specs.declared.target.Target.{Target}
 use Rattle.reply.specs.Calls.{IsInquiryAnswered, IsInquiryWithoutQueriesAnswered, inquiry_identity}
 use Rattle.reply.specs.Conversions.{conversion, conversion_to_list, converted_to, split_conversion}
-use Rattle.reply.specs.Inquiries.{◌>>=◌, Inquiry, inquiry_without_queries, text_worth, worths}
+use Rattle.reply.specs.Inquiries.{◌>>=◌, Inquiry, inquiry_without_queries, value_of_text, values_of_trees}
 use Rattle.reply.specs.Targets.{conversion_target, conversion_target_parts}
 use Rattle.reply.specs.Trees.{inquiry_trees}
 use Rattle.reply.proofs.InquirySequence.{read-given, result-read-after-inquiry, then-answered, then-failed}
@@ -30,7 +30,7 @@ module _ (t : EntryTable) (options : Options) (list : List ℕ) (x : Amount) (a 
   by_units units = split_conversion x list units (unit_counts_in options.round x units)
 
   abbrev by_trees : List Syntax → Inquiry Conversion
-  by_trees trees = worths t trees >>= (λ units. inquiry_without_queries (by_units units))
+  by_trees trees = values_of_trees t trees >>= (λ units. inquiry_without_queries (by_units units))
 
   abbrev parsed : Inquiry (List Syntax)
   parsed = inquiry_without_queries (inquiry_trees (conversion_target_parts list))
@@ -47,22 +47,24 @@ module _ (t : EntryTable) (options : Options) (list : List ℕ) (x : Amount) (a 
       (is : inquiry_trees (conversion_target_parts list) ≡ Ok trees)
       (b : LiveView) (m : ℕ) where
     -- a part has no value
-    pub split-unvalued : (failure : Failure) → IsInquiryAnswered seen (worths t trees) (Err failure) a b n m
+    pub split-unvalued : (failure : Failure) → IsInquiryAnswered seen (values_of_trees t trees) (Err failure) a b n m
         → IsInquiryAnswered inquiry_identity (conversion_to_list t options list x) (Err failure) a b n m
     split-unvalued failure h =
         then-answered inquiry_identity parsed by_trees trees (Err failure) a a b n n m refl is
         (no_live_events_keep_view a n right)
-        (then-failed inquiry_identity (worths t trees) (λ units. inquiry_without_queries (by_units units)) seen failure
+        (then-failed inquiry_identity (values_of_trees t trees) (λ units. inquiry_without_queries (by_units units)) seen
+        failure
         a b n m h)
 
     -- all parts have values
     pub split-counted : (units : A) (r : Result Conversion Failure) → b.deck ≡ a.deck
-        → IsInquiryAnswered seen (worths t trees) (Ok units) a b n m → IsInquiryWithoutQueriesAnswered inquiry_identity
+        → IsInquiryAnswered seen (values_of_trees t trees) (Ok units) a b n m
+        → IsInquiryWithoutQueriesAnswered inquiry_identity
         (by_units (seen units)) r
         → IsInquiryAnswered inquiry_identity (conversion_to_list t options list x) r a b n m
     split-counted units r deck h read =
         then-answered inquiry_identity parsed by_trees trees r a a b n n m refl is (no_live_events_keep_view a n right)
-        (result-read-after-inquiry inquiry_identity (worths t trees) seen by_units units r a b n m deck h read)
+        (result-read-after-inquiry inquiry_identity (values_of_trees t trees) seen by_units units r a b n m deck h read)
 
 -- ---- from a text to another
 module _ (options : Options) (from to : List ℕ) (a b : LiveView) (n m : ℕ) where
@@ -71,20 +73,21 @@ module _ (options : Options) (from to : List ℕ) (a b : LiveView) (n m : ℕ) w
 
   -- FROM has a fault
   pub convert-unvalued : (failure : Failure) → IsInquiryAnswered inquiry_identity
-      (text_worth (table_of_deck a.deck) from) (Err failure) a b n m
+      (value_of_text (table_of_deck a.deck) from) (Err failure) a b n m
       → IsInquiryAnswered inquiry_identity (conversion (table_of_deck a.deck) options from to) (Err failure) a b n m
   convert-unvalued failure h =
-      then-failed inquiry_identity (text_worth (table_of_deck a.deck) from) (further (table_of_deck a.deck))
+      then-failed inquiry_identity (value_of_text (table_of_deck a.deck) from) (further (table_of_deck a.deck))
       inquiry_identity failure a b n m h
 
   module _ (x : Amount) (deck : b.deck ≡ a.deck)
-      (h : IsInquiryAnswered inquiry_identity (text_worth (table_of_deck a.deck) from) (Ok x) a b n m)
+      (h : IsInquiryAnswered inquiry_identity (value_of_text (table_of_deck a.deck) from) (Ok x) a b n m)
     where
       -- memory runs out after FROM
       pub convert-stopped : IsInquiryAnswered inquiry_identity (conversion (table_of_deck a.deck) options from to)
           (Err OutOfMemory) a b n m
       convert-stopped =
-          then-stopped inquiry_identity (text_worth (table_of_deck a.deck) from) (further (table_of_deck a.deck)) x a b
+          then-stopped inquiry_identity (value_of_text (table_of_deck a.deck) from) (further (table_of_deck a.deck)) x a
+          b
           n m deck h.0 h.1
 
       -- FROM is converted
@@ -93,7 +96,8 @@ module _ (options : Options) (from to : List ℕ) (a b : LiveView) (n m : ℕ) w
           → IsInquiryAnswered inquiry_identity (converted_to (table_of_deck b.deck) options to meant x) r b c m k
           → IsInquiryAnswered inquiry_identity (conversion (table_of_deck a.deck) options from to) r a c n k
       convert-done seen meant r c k is means g =
-          then-answered inquiry_identity (text_worth (table_of_deck a.deck) from) (further (table_of_deck a.deck)) x r a
+          then-answered inquiry_identity (value_of_text (table_of_deck a.deck) from) (further (table_of_deck a.deck)) x
+          r a
           b c n m k deck h.0 h.1
           (subst (λ (d : DeckContents). IsInquiryAnswered inquiry_identity (further (table_of_deck d) x) r b c m k) deck
           (subst (λ (t : Target). IsInquiryAnswered inquiry_identity

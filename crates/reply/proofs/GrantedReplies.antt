@@ -21,7 +21,7 @@ use Rattle.table_names.specs.declared.fault.NameFault.{NameFault}
 use Rattle.table_names.specs.Faults.{key_fault}
 use Rattle.table_names.specs.Kinds.{MeaningKindLaw, TableNamesFitKinds, table_name_may_mean}
 use Rattle.table_names.specs.Meanings.{key_meaning}
-use Rattle.live_table.specs.Answers.{live_answer_of_worth, live_inverse_answer, live_inverse_worth}
+use Rattle.live_table.specs.Answers.{live_answer_of_value, live_inverse_answer, live_inverse_value}
 use Rattle.live_table.specs.States.{AsksKey}
 use Rattle.live_table.proofs.DeckTables.{live_deck_entries_fit_kinds}
 use Rattle.frac128.specs.Fraction.{Fraction}
@@ -37,7 +37,7 @@ use Rattle.reply.specs.Conversions.{is_conversion_granted, split_conversion}
 use Rattle.reply.specs.Grants.{ConversionGrantLaw, ConvertsTo, ConvertsToFunction, ConvertsToList, ConvertsToUnit}
 use Rattle.reply.specs.Grants.{IsConversion, IsConversionReply}
 use Rattle.reply.specs.Inquiries.{◌>>=◌, Inquiry, inquiry_answer, inquiry_of_single_query, inquiry_without_queries}
-use Rattle.reply.specs.Inquiries.{text_worth, worths}
+use Rattle.reply.specs.Inquiries.{value_of_text, values_of_trees}
 use Rattle.reply.specs.Lines.{conversion_text}
 use Rattle.reply.specs.Options.{reply_form}
 use Rattle.reply.specs.Quotients.{ConversionQuotientLaw}
@@ -77,7 +77,7 @@ record IsInverse (m : EvalMeaning) (x y : Amount) : Type 0 where
   evaluates : inverse_value_at function x ≡ Ok y
 
 conversion-inverse-of-meaning : (m : EvalMeaning) (x y : Amount) → table_name_may_mean kind.Func m ≡ true
-    → live_inverse_worth m x ≡ Ok y → IsInverse m x y
+    → live_inverse_value m x ≡ Ok y → IsInverse m x y
 conversion-inverse-of-meaning (Callee f) x y may h = record { function = f; meaning = refl; evaluates = h }
 conversion-inverse-of-meaning (One z) x y may h = absurd (true≢false (sym may))
 conversion-inverse-of-meaning (Two z w) x y may h = absurd (true≢false (sym may))
@@ -92,7 +92,7 @@ module _ (table : EntryTable) (options : Options) (to : List ℕ) (x : Amount) w
   counts_by list units = inquiry_without_queries (split_conversion x list units (unit_counts_in options.round x units))
 
   abbrev units_by : List ℕ → List Syntax → Inquiry Conversion
-  units_by list trees = worths table trees >>= counts_by list
+  units_by list trees = values_of_trees table trees >>= counts_by list
 
   abbrev against : Amount → Inquiry Conversion
   against y = inquiry_without_queries (conversion_between options.strict x y)
@@ -103,8 +103,8 @@ module _ (table : EntryTable) (options : Options) (to : List ℕ) (x : Amount) w
   module _ (kinds : MeaningKindLaw) (fits : TableNamesFitKinds table) (present : is_entry_present table function ≡ true)
     where
       by-key : (y : Amount) (fault : Option NameFault) → key_fault table function ≡ fault
-          → (w : ValueOrFault) → live_inverse_worth (key_meaning table function) x ≡ w
-          → inquiry_answer (live_answer_of_worth fault w) ≡ Ok y → ConvertsToFunction table to x y
+          → (w : ValueOrFault) → live_inverse_value (key_meaning table function) x ≡ w
+          → inquiry_answer (live_answer_of_value fault w) ≡ Ok y → ConvertsToFunction table to x y
       by-key y None names (Ok q) evaluates h =
           let is = conversion-inverse-of-meaning (key_meaning table function) x y
           (kinds.keys table fits function present names)
@@ -122,11 +122,11 @@ module _ (table : EntryTable) (options : Options) (to : List ℕ) (x : Amount) w
       let s = split-answers (inquiry_of_single_query (AsksKey function) (live_inverse_answer table to x)) inverse c h in
       subst (ConvertsTo table options to Function x) (same_Ok (Inverse s.0) c s.2)
       (by-key kinds fits (conversion-function-is-present table to is) s.0 (key_fault table function) refl
-      (live_inverse_worth (key_meaning table function) x) refl s.1)
+      (live_inverse_value (key_meaning table function) x) refl s.1)
   converts-of law kinds fits (Parts list) is c h g =
       let t = split-answers (inquiry_without_queries (inquiry_trees (conversion_target_parts list))) (units_by list) c h
       in
-      let u = split-answers (worths table t.0) (counts_by list) c t.2 in
+      let u = split-answers (values_of_trees table t.0) (counts_by list) c t.2 in
       let k = split-of options.round x u.0 list c u.2 g in
       subst (ConvertsTo table options to (Parts list) x) k.same (
         refl,
@@ -139,7 +139,7 @@ module _ (table : EntryTable) (options : Options) (to : List ℕ) (x : Amount) w
         },
       )
   converts-of law kinds fits Unit is c h g =
-      let s = split-answers (text_worth table to) against c h in
+      let s = split-answers (value_of_text table to) against c h in
       record {
         y = s.0;
         evaluates = value-of table to s.0 s.1;
@@ -152,7 +152,7 @@ module _ (table : EntryTable) (options : Options) (to : List ℕ) (x : Amount) w
       let v = of-values table (conversion_target_parts list) h.units h.evaluates in
       let c : Conversion = Split list counts in
       join-answers (inquiry_without_queries (inquiry_trees (conversion_target_parts list))) (units_by list) c v.0 v.1
-      (join-answers (worths table v.0) (counts_by list) c h.units v.2
+      (join-answers (values_of_trees table v.0) (counts_by list) c h.units v.2
       (ap (split_conversion x list h.units) (of-counts options.round x h.units counts (record {
         conformable = h.conformable;
         positive = h.units_positive;
@@ -163,8 +163,8 @@ module _ (table : EntryTable) (options : Options) (to : List ℕ) (x : Amount) w
       → (converted_to table options to Function x).answer ≡ Ok (Inverse y)
   of-function y h =
       join-answers (inquiry_of_single_query (AsksKey function) (live_inverse_answer table to x)) inverse (Inverse y) y
-      (ap₂ (λ f w. inquiry_answer (live_answer_of_worth f w)) h.names
-      (ap (λ m. live_inverse_worth m x) h.function_meaning ∙ h.evaluates)) refl
+      (ap₂ (λ f w. inquiry_answer (live_answer_of_value f w)) h.names
+      (ap (λ m. live_inverse_value m x) h.function_meaning ∙ h.evaluates)) refl
 
   pub of-parts : (list text : List ℕ) (counts : List Fraction) → text ≡ list
       → ConvertsToList table options.round list x counts
@@ -174,7 +174,7 @@ module _ (table : EntryTable) (options : Options) (to : List ℕ) (x : Amount) w
   of-converts : ConversionQuotientLaw → (t : Target) (c : Conversion) → ConvertsTo table options to t x c
       → (converted_to table options to t x).answer ≡ Ok c
   of-converts law Unit c h =
-      join-answers (text_worth table to) against c h.y (of-value table to h.y h.evaluates)
+      join-answers (value_of_text table to) against c h.y (of-value table to h.y h.evaluates)
       (of-conversion law options.strict x h.y c h.converts)
   of-converts law Function (Inverse y) h = of-function y h
   of-converts law Function (Linear r) h = absurd h
@@ -213,7 +213,7 @@ module _ (table : EntryTable) (options : Options) (from to : List ℕ) where
       → IsInquiredValueOf table (trimmed_of_blanks from) x
       → conversion_reply table options from to ≡ reply_by (converted_to table options (trimmed_of_blanks to) t x).answer
   target-reply t is x v =
-      ap (λ result. reply_by (answer_after (text_worth table (trimmed_of_blanks from)) further result))
+      ap (λ result. reply_by (answer_after (value_of_text table (trimmed_of_blanks from)) further result))
       (of-value table (trimmed_of_blanks from) x v)
       ∙ ap (λ t. reply_by (converted_to table options (trimmed_of_blanks to) t x).answer) is
 
@@ -226,13 +226,13 @@ module _ (table : EntryTable) (options : Options) (from to : List ℕ) where
   unit-reply is x y v w =
       target-reply Unit is x v
       ∙ ap (λ result. reply_by
-      (answer_after (text_worth table (trimmed_of_blanks to)) (against table options (trimmed_of_blanks to) x)
+      (answer_after (value_of_text table (trimmed_of_blanks to)) (against table options (trimmed_of_blanks to) x)
       result)) (of-value table (trimmed_of_blanks to) y w)
 
   module _ (law : ConversionQuotientLaw) where
     answer-of : (c : Conversion) → IsConversion table options from to c → answer ≡ Ok c
     answer-of c h =
-        join-answers (text_worth table (trimmed_of_blanks from)) further c h.x
+        join-answers (value_of_text table (trimmed_of_blanks from)) further c h.x
         (of-value table (trimmed_of_blanks from) h.x h.evaluates)
         (of-converts table options (trimmed_of_blanks to) h.x law (conversion_target table (trimmed_of_blanks to)) c
         h.converts)
@@ -249,7 +249,7 @@ module _ (table : EntryTable) (options : Options) (from to : List ℕ) where
       of-answer : (c : Conversion) → answer ≡ Ok c → is_conversion_granted c ≡ true
           → IsConversion table options from to c
       of-answer c h g =
-          let s = split-answers (text_worth table (trimmed_of_blanks from)) further c h in
+          let s = split-answers (value_of_text table (trimmed_of_blanks from)) further c h in
           record {
             x = s.0;
             evaluates = value-of table (trimmed_of_blanks from) s.0 s.1;

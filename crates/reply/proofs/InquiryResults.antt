@@ -13,10 +13,10 @@ use Rattle.tree_eval.specs.Value.{value}
 use Rattle.table_names.specs.declared.fault.NameFault.{NameFault}
 use Rattle.table_names.specs.Faults.{name_fault}
 use Rattle.table_names.specs.Meanings.{expansion}
-use Rattle.live_table.specs.Answers.{live_answer_of_worth}
+use Rattle.live_table.specs.Answers.{live_answer_of_value}
 use Rattle.reply.specs.declared.fault.ReplyFault.{ReplyFault}
-use Rattle.reply.specs.Inquiries.{◌>>=◌, Inquiry, inquiry_after, inquiry_answer, inquiry_without_queries, text_worth}
-use Rattle.reply.specs.Inquiries.{tree_value, worths}
+use Rattle.reply.specs.Inquiries.{◌>>=◌, Inquiry, inquiry_after, inquiry_answer, inquiry_without_queries, value_of_text}
+use Rattle.reply.specs.Inquiries.{tree_value, values_of_trees}
 use Rattle.reply.specs.TextValues.{AreInquiredValuesOf, IsInquiredValueOf}
 use Rattle.reply.specs.Trees.{inquiry_parse_result, inquiry_tree, inquiry_trees}
 use Rattle.general_lemmas.proofs.Results.{same_Ok, err-ok}
@@ -57,7 +57,7 @@ module _ (table : EntryTable) (text : List ℕ) (x : Amount) where
   by-tree : (tree : Syntax) → parse_of None text ≡ Ok tree
       → (fault : Option NameFault) → name_fault table (words_in tree) ≡ fault
       → (result : ValueOrFault) → value (expansion table tree) None ≡ result
-      → inquiry_answer (live_answer_of_worth fault result) ≡ Ok x → IsInquiredValueOf table text x
+      → inquiry_answer (live_answer_of_value fault result) ≡ Ok x → IsInquiredValueOf table text x
   by-tree tree parses None names (Ok q) evaluates h = record {
     tree = tree;
     parses = parses;
@@ -67,7 +67,7 @@ module _ (table : EntryTable) (text : List ℕ) (x : Amount) where
   by-tree tree parses None names (Err fault) evaluates h = absurd (err-ok _ x h)
   by-tree tree parses (Some fault) names result evaluates h = absurd (err-ok _ x h)
 
-  pub value-of : (text_worth table text).answer ≡ Ok x → IsInquiredValueOf table text x
+  pub value-of : (value_of_text table text).answer ≡ Ok x → IsInquiredValueOf table text x
   value-of h = go (parse_of None text) refl h
     where
       go : (p : Result Syntax ParseFault) → parse_of None text ≡ p → answer_for p ≡ Ok x
@@ -77,9 +77,9 @@ module _ (table : EntryTable) (text : List ℕ) (x : Amount) where
       go (Err fault) parses h = absurd (err-ok _ x h)
 
   pub of-tree : (v : IsInquiredValueOf table text x) → (tree_value table v.tree).answer ≡ Ok x
-  of-tree v = ap₂ (λ fault result. inquiry_answer (live_answer_of_worth fault result)) v.names v.evaluates
+  of-tree v = ap₂ (λ fault result. inquiry_answer (live_answer_of_value fault result)) v.names v.evaluates
 
-  pub of-value : IsInquiredValueOf table text x → (text_worth table text).answer ≡ Ok x
+  pub of-value : IsInquiredValueOf table text x → (value_of_text table text).answer ≡ Ok x
   of-value v = ap answer_for v.parses ∙ of-tree v
 
 -- a text has one value
@@ -94,19 +94,19 @@ module _ (table : EntryTable) where
   onto x xs = inquiry_without_queries (Ok (x ∷ xs))
 
   pub values-of : (texts : List (List ℕ)) (trees : List Syntax) (units : List Amount) → inquiry_trees texts ≡ Ok trees
-      → (worths table trees).answer ≡ Ok units → AreInquiredValuesOf table texts units
+      → (values_of_trees table trees).answer ≡ Ok units → AreInquiredValuesOf table texts units
   values-of [] trees units e h =
       let none : [] ≡ trees = same_Ok [] trees e in
       let nothing : [] ≡ units =
-      same_Ok [] units (ap (λ ts. (worths table ts).answer) none ∙ h) in
+      same_Ok [] units (ap (λ ts. (values_of_trees table ts).answer) none ∙ h) in
       subst (AreInquiredValuesOf table []) nothing tt
   values-of (text ∷ texts) trees units e h =
       let read = split-steps (inquiry_tree text) (λ tree. bound (inquiry_trees texts) (λ ts. Ok (tree ∷ ts))) trees e in
       let rest = split-steps (inquiry_trees texts) (λ ts. Ok (read.0 ∷ ts)) trees read.2 in
       let is : read.0 ∷ rest.0 ≡ trees = same_Ok (read.0 ∷ rest.0) trees rest.2 in
-      let first = split-answers (tree_value table read.0) (λ x. worths table rest.0 >>= onto x) units
-      (ap (λ ts. (worths table ts).answer) is ∙ h) in
-      let further = split-answers (worths table rest.0) (onto first.0) units first.2 in
+      let first = split-answers (tree_value table read.0) (λ x. values_of_trees table rest.0 >>= onto x) units
+      (ap (λ ts. (values_of_trees table ts).answer) is ∙ h) in
+      let further = split-answers (values_of_trees table rest.0) (onto first.0) units first.2 in
       subst (AreInquiredValuesOf table (text ∷ texts)) {x = first.0 ∷ further.0}
       (same_Ok (first.0 ∷ further.0) units further.2) (
         value-of table text first.0
@@ -116,7 +116,7 @@ module _ (table : EntryTable) where
       )
 
   pub of-values : (texts : List (List ℕ)) (units : List Amount) → AreInquiredValuesOf table texts units
-      → (trees : List Syntax) × (inquiry_trees texts ≡ Ok trees) × ((worths table trees).answer ≡ Ok units)
+      → (trees : List Syntax) × (inquiry_trees texts ≡ Ok trees) × ((values_of_trees table trees).answer ≡ Ok units)
   of-values [] [] h = ([], refl, refl)
   of-values [] (x ∷ units) h = absurd h
   of-values (text ∷ texts) [] h = absurd h
@@ -124,7 +124,7 @@ module _ (table : EntryTable) where
       let rest = of-values texts units h.1 in (
         h.0.tree ∷ rest.0,
         ap₂ (λ p q. bound (inquiry_parse_result p) (λ tree. bound q (λ ts. Ok (tree ∷ ts)))) h.0.parses rest.1,
-        join-answers (tree_value table h.0.tree) (λ x. worths table rest.0 >>= onto x) (x ∷ units) x
+        join-answers (tree_value table h.0.tree) (λ x. values_of_trees table rest.0 >>= onto x) (x ∷ units) x
             (of-tree table text x h.0)
-            (join-answers (worths table rest.0) (onto x) (x ∷ units) units rest.2 refl),
+            (join-answers (values_of_trees table rest.0) (onto x) (x ∷ units) units rest.2 refl),
       )

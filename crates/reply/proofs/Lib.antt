@@ -16,8 +16,8 @@ mod PositiveValues
 mod ReplyResults
 pub mod Runs
 mod SoundExpansions
-mod ToldFaults
-mod TreeWorths
+mod ReportableFaults
+mod TreeValues
 mod UnitConversions
 mod UnitCounts
 mod UnlikeUnits

@@ -23,20 +23,20 @@ use Rattle.reply.specs.declared.reply.Reply.{Reply}
 use Rattle.reply.specs.Calls.{IsInquiryAnswered, inquiry_identity}
 use Rattle.reply.specs.Conversions.{conversion}
 use Rattle.reply.specs.Faults.{fault_text, is_reply_fault_reportable}
-use Rattle.reply.specs.Inquiries.{text_worth}
+use Rattle.reply.specs.Inquiries.{value_of_text}
 use Rattle.reply.specs.Options.{reply_form, reply_style}
 use Rattle.reply.specs.Replies.{conversion_as_reply, conversion_queries, conversion_result_as_reply}
 use Rattle.reply.specs.Replies.{definition_result_as_reply, reply_body_of_entry, reply_from_value, conversion_reply}
 use Rattle.reply.specs.Replies.{definition_as_reply, definition_reply, from_value, inquiry_value_queries, refusal_reply}
 use Rattle.reply.specs.declared.reply.FromValue.TheVariants.{Good, Bad}
 use Rattle.reply.proofs.Runs.{inquiry_queries_made_or_cut}
-use Rattle.reply.proofs.ToldFaults.{IsTold, conversion-told, text-told}
+use Rattle.reply.proofs.ReportableFaults.{IsReportableResult, conversion-reportable, text-reportable}
 
 -- a fault of an inquiry is not lack of memory
-inquiry_fault_is_reportable : {A : Type 0} (said : Result A ReplyFault) (fault : ReplyFault) → IsTold said
+inquiry_fault_is_reportable : {A : Type 0} (said : Result A ReplyFault) (fault : ReplyFault) → IsReportableResult said
     → said ≡ Err fault
     → is_reply_fault_reportable fault ≡ true
-inquiry_fault_is_reportable said fault h e = subst IsTold e h
+inquiry_fault_is_reportable said fault h e = subst IsReportableResult e h
 
 -- a property of the expected reply is a property of the returned one
 pub reply-holds : (P : Reply → Type 0) (given : Result Reply AllocError) (wanted : Reply) → P wanted
@@ -76,10 +76,10 @@ module _ (options : Options) (from to f g : List ℕ) (p : f ≡ trimmed_of_blan
       ap (λ (w : Form). refusal_reply w fault) is
       ∙ (ap (conversion_result_as_reply (reply_form options) f g) (sym h.0) ∙ trimmed-reply)
 
-  pub conversion-fault-told : ParseMemoryLaw → (fault : ReplyFault) → answered (Err (Fault fault))
+  pub conversion-fault-reportable : ParseMemoryLaw → (fault : ReplyFault) → answered (Err (Fault fault))
       → is_reply_fault_reportable fault ≡ true
-  conversion-fault-told law fault h = inquiry_fault_is_reportable (conversion t options f g).answer fault
-      (conversion-told law t options f g)
+  conversion-fault-reportable law fault h = inquiry_fault_is_reportable (conversion t options f g).answer fault
+      (conversion-reportable law t options f g)
       h.0
 
   pub conversion-made : {A : Type 0} (r : Result A AllocError) → b.deck ≡ a.deck
@@ -99,23 +99,23 @@ module _ (options : Options) (from f : List ℕ) (p : f ≡ trimmed_of_blanks fr
   u = table_of_deck a.deck
 
   abbrev valued : Result Amount Failure → Type 0
-  valued r = IsInquiryAnswered inquiry_identity (text_worth u f) r a b n m
+  valued r = IsInquiryAnswered inquiry_identity (value_of_text u f) r a b n m
 
-  value-queries : (text_worth u f).events ≡ inquiry_value_queries u from
-  value-queries = λ i. (text_worth u (p i)).events
+  value-queries : (value_of_text u f).events ≡ inquiry_value_queries u from
+  value-queries = λ i. (value_of_text u (p i)).events
 
   abbrev body_in : DeckContents → List ℕ → Option (List ℕ)
   body_in d name = reply_body_of_entry (entry_at (table_of_deck d) (key kind.Unit name))
 
   trimmed-definition : definition_result_as_reply (reply_form options) (body_in a.deck f)
-      (text_worth u f).answer ≡ definition_reply
+      (value_of_text u f).answer ≡ definition_reply
       u
       options from
   trimmed-definition = λ i. definition_result_as_reply (reply_form options) (body_in a.deck (p i))
-      (text_worth u (p i)).answer
+      (value_of_text u (p i)).answer
 
-  trimmed-value : reply_from_value options (text_worth u f).answer ≡ from_value u options from
-  trimmed-value = λ i. reply_from_value options (text_worth u (p i)).answer
+  trimmed-value : reply_from_value options (value_of_text u f).answer ≡ from_value u options from
+  trimmed-value = λ i. reply_from_value options (value_of_text u (p i)).answer
 
   pub definition-granted : (form : Form) → form ≡ reply_form options → (seen : DeckContents) → seen ≡ b.deck
       → b.deck ≡ a.deck
@@ -137,16 +137,17 @@ module _ (options : Options) (from f : List ℕ) (p : f ≡ trimmed_of_blanks fr
       → Bad (fault_text (reply_style options) fault) ≡ from_value u options from
   value-bad fault h = ap (reply_from_value options) (sym h.0) ∙ trimmed-value
 
-  pub value-fault-told : ParseMemoryLaw → (fault : ReplyFault) → valued (Err (Fault fault))
+  pub value-fault-reportable : ParseMemoryLaw → (fault : ReplyFault) → valued (Err (Fault fault))
       → is_reply_fault_reportable fault ≡ true
-  value-fault-told law fault h = inquiry_fault_is_reportable (text_worth u f).answer fault (text-told law u f) h.0
+  value-fault-reportable law fault h = inquiry_fault_is_reportable (value_of_text u f).answer fault
+      (text-reportable law u f) h.0
 
   pub value-made : {A : Type 0} (r : Result A AllocError) → b.deck ≡ a.deck
-      → IsAfterLiveEvents (text_worth u f).events a b n m
+      → IsAfterLiveEvents (value_of_text u f).events a b n m
       → AreLiveQueries (inquiry_value_queries u from) r a b n m
   value-made r deck h =
       subst (λ (es : List LiveEvent). AreLiveQueries es r a b n m) value-queries
-      (inquiry_queries_made_or_cut r (text_worth u f).events a b n m deck h)
+      (inquiry_queries_made_or_cut r (value_of_text u f).events a b n m deck h)
 
   pub value-cut : valued (Err OutOfMemory) → AreLiveEventsCutOff (inquiry_value_queries u from) a b n m
   value-cut h = subst (λ (es : List LiveEvent). AreLiveEventsCutOff es a b n m) value-queries h

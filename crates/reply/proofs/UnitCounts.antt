@@ -11,7 +11,7 @@ use Rattle.def_entry.specs.EntryReading.{is_entry_semicolon}
 use Rattle.def_entry.specs.Tables.{EntryTable}
 use Rattle.def_lines.specs.Blanks.{trimmed_of_blanks}
 use Rattle.reply.specs.declared.fault.ReplyFault.{ReplyFault}
-use Rattle.reply.specs.Inquiries.{inquiry_after, inquiry_without_queries, tree_value, worths}
+use Rattle.reply.specs.Inquiries.{inquiry_after, inquiry_without_queries, tree_value, values_of_trees}
 use Rattle.reply.specs.Targets.{conversion_target_parts}
 use Rattle.reply.specs.Trees.{inquiry_tree, inquiry_trees}
 
@@ -33,16 +33,18 @@ inquiry-trees-count (text ∷ texts) trees e = go (inquiry-trees-count texts) (i
     go few (Err fault) q is e = cc
 
 -- there are as many values as trees
-pub inquiry-worths-count : (t : EntryTable) (trees : List Syntax) (xs : List Amount) → (worths t trees).answer ≡ Ok xs
+pub inquiry-values_of_trees-count : (t : EntryTable) (trees : List Syntax) (xs : List Amount)
+    → (values_of_trees t trees).answer ≡ Ok xs
     → length xs ≡ length trees
-inquiry-worths-count t [] xs e = let s : [] ≡ xs = cc in ap length (sym s)
-inquiry-worths-count t (tree ∷ trees) xs e = go (inquiry-worths-count t trees) (tree_value t tree).answer
-    (worths t trees).answer refl e
+inquiry-values_of_trees-count t [] xs e = let s : [] ≡ xs = cc in ap length (sym s)
+inquiry-values_of_trees-count t (tree ∷ trees) xs e = go (inquiry-values_of_trees-count t trees)
+    (tree_value t tree).answer
+    (values_of_trees t trees).answer refl e
   where
-    go : ((ys : List Amount) → (worths t trees).answer ≡ Ok ys → length ys ≡ length trees)
-        → (p : Result Amount ReplyFault) (q : Result (List Amount) ReplyFault) → (worths t trees).answer ≡ q
+    go : ((ys : List Amount) → (values_of_trees t trees).answer ≡ Ok ys → length ys ≡ length trees)
+        → (p : Result Amount ReplyFault) (q : Result (List Amount) ReplyFault) → (values_of_trees t trees).answer ≡ q
         → (inquiry_after (tree_value t tree).events p
-        (λ x. inquiry_after (worths t trees).events q (λ ys. inquiry_without_queries (Ok (x ∷ ys))))).answer
+        (λ x. inquiry_after (values_of_trees t trees).events q (λ ys. inquiry_without_queries (Ok (x ∷ ys))))).answer
         ≡ Ok xs
         → length xs ≡ length (tree ∷ trees)
     go few (Ok x) (Ok ys) is e =
@@ -64,12 +66,13 @@ conversion-list-has-a-part list =
 
 -- a list has at least one unit
 pub conversion-list-has-a-unit : (t : EntryTable) (list : List ℕ) (trees : List Syntax) (units : List Amount)
-    → inquiry_trees (conversion_target_parts list) ≡ Ok trees → (worths t trees).answer ≡ Ok units → 0 < length units
+    → inquiry_trees (conversion_target_parts list) ≡ Ok trees → (values_of_trees t trees).answer ≡ Ok units
+    → 0 < length units
 conversion-list-has-a-unit t list trees units e f =
     omega (
       arith,
       conversion-list-has-a-part list,
       inquiry-trees-count (conversion_target_parts list) trees
           e,
-      inquiry-worths-count t trees units f,
+      inquiry-values_of_trees-count t trees units f,
     )

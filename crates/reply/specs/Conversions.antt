@@ -21,7 +21,7 @@ use Rattle.reply.specs.declared.ratio.Ratio.{Ratio}
 use Rattle.reply.specs.declared.target.Target.{Target}
 use Rattle.reply.specs.declared.target.Target.TheVariants.{Function, Parts, Unit}
 use Rattle.reply.specs.Inquiries.{◌>>=◌, Inquiry, inquiry_of_single_query, inquiry_without_queries}
-use Rattle.reply.specs.Inquiries.{reply_fault_of_memory, text_worth, worths}
+use Rattle.reply.specs.Inquiries.{reply_fault_of_memory, value_of_text, values_of_trees}
 use Rattle.reply.specs.Ratios.{conversion_ratio, reciprocal_conversion_ratio}
 use Rattle.reply.specs.Targets.{conversion_target, conversion_target_parts}
 use Rattle.reply.specs.Trees.{inquiry_trees}
@@ -68,13 +68,13 @@ module _ (table : EntryTable) (options : Options) where
   abbrev pub conversion_to_list : (list : List ℕ) → Amount → Inquiry Conversion
   conversion_to_list list x = do
     trees ← inquiry_without_queries (inquiry_trees (conversion_target_parts list))
-    units ← worths table trees
+    units ← values_of_trees table trees
     inquiry_without_queries (split_conversion x list units (unit_counts_in options.round x units))
 
   -- the conversion to a unit
   abbrev pub conversion_to_unit : (to : List ℕ) → Amount → Inquiry Conversion
   conversion_to_unit to x = do
-    y ← text_worth table to
+    y ← value_of_text table to
     inquiry_without_queries (conversion_between options.strict x y)
 
   abbrev pub converted_to : (to : List ℕ) → Target → Amount → Inquiry Conversion
@@ -85,5 +85,5 @@ module _ (table : EntryTable) (options : Options) where
   -- the conversion of one text to another
   abbrev pub conversion : (from to : List ℕ) → Inquiry Conversion
   conversion from to = do
-    x ← text_worth table from
+    x ← value_of_text table from
     converted_to to (conversion_target table to) x

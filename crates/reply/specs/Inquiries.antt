@@ -52,15 +52,15 @@ module _ (table : EntryTable) where
   tree_value tree = inquiry_of_single_query (AsksWords (words_in tree)) (live_table_answer table tree)
 
   -- the values of trees, in order
-  abbrev pub worths : List Syntax → Inquiry (List Amount)
-  worths [] = inquiry_without_queries (Ok [])
-  worths (tree ∷ trees) = do
+  abbrev pub values_of_trees : List Syntax → Inquiry (List Amount)
+  values_of_trees [] = inquiry_without_queries (Ok [])
+  values_of_trees (tree ∷ trees) = do
     x ← tree_value tree
-    xs ← worths trees
+    xs ← values_of_trees trees
     inquiry_without_queries (Ok (x ∷ xs))
 
   -- the value of a text: the first fault of its syntax, then that of its names, then that of its value
-  abbrev pub text_worth : List ℕ → Inquiry Amount
-  text_worth text = do
+  abbrev pub value_of_text : List ℕ → Inquiry Amount
+  value_of_text text = do
     tree ← inquiry_without_queries (inquiry_tree text)
     tree_value tree

@@ -16,7 +16,7 @@ use Rattle.reply.specs.declared.reply.FromValue.TheVariants.{Good, Bad}
 use Rattle.reply.specs.declared.conversion.Conversion.{Conversion}
 use Rattle.reply.specs.Conversions.{conversion, conversion_between, is_conversion_granted}
 use Rattle.reply.specs.Faults.{fault_text}
-use Rattle.reply.specs.Inquiries.{Inquiry, text_worth}
+use Rattle.reply.specs.Inquiries.{Inquiry, value_of_text}
 use Rattle.reply.specs.Lines.{conversion_text, definition_reply_text}
 use Rattle.reply.specs.Options.{reply_form, reply_style}
 
@@ -77,12 +77,12 @@ module _ (table : EntryTable) (options : Options) where
   definition_reply from =
       definition_result_as_reply (reply_form options)
       (reply_body_of_entry (entry_at table (key kind.Unit (trimmed_of_blanks from))))
-      (text_worth table (trimmed_of_blanks from)).answer
+      (value_of_text table (trimmed_of_blanks from)).answer
 
   -- the value of a text, or the text of its first fault
   abbrev pub from_value : (from : List ℕ) → FromValue
-  from_value from = reply_from_value options (text_worth table (trimmed_of_blanks from)).answer
+  from_value from = reply_from_value options (value_of_text table (trimmed_of_blanks from)).answer
 
 -- the queries of a definition or a value
 abbrev pub inquiry_value_queries : EntryTable → (from : List ℕ) → List LiveEvent
-inquiry_value_queries table from = (text_worth table (trimmed_of_blanks from)).events
+inquiry_value_queries table from = (value_of_text table (trimmed_of_blanks from)).events

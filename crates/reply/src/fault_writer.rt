@@ -18,7 +18,7 @@ use units_io::Text;
 /// Returns the text of a fault: one line, with no tab before it and no line feed after it. The quantities of a sum are
 /// written in the style of the options. The only error is lack of memory.
 pub fn fault_text(alloc: Global, fault: &ReplyFault, options: &Options) -> Result<Text, AllocError>
-    requires told { spec.is_reply_fault_reportable fault.now ≡ true }
+    requires reportable { spec.is_reply_fault_reportable fault.now ≡ true }
     requires printable { AreReplyOptionsPrintable options.now }
     ensures { IfOk result (λ text. text ≡ spec.fault_text (reply_style options.now) fault.now) }
 {
@@ -34,7 +34,7 @@ pub(crate) fn put_fault(
     fault: &ReplyFault,
     style: Style,
 ) -> Result<(), AllocError>
-    requires told { spec.is_reply_fault_reportable fault.now ≡ true }
+    requires reportable { spec.is_reply_fault_reportable fault.now ≡ true }
     requires style { IsPrintStyle style }
     ensures { OnOk result (text.new.items ≡ text.old.items ++ spec.fault_text style fault.now) }
 {

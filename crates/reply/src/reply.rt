@@ -164,7 +164,7 @@ pub fn from_value<L: Ledger>(
 
 // Returns a fault in place of a value.
 fn bad(alloc: Global, options: &Options, fault: &ReplyFault) -> Result<FromValue, AllocError>
-    requires told { faults.is_reply_fault_reportable fault.now ≡ true }
+    requires reportable { faults.is_reply_fault_reportable fault.now ≡ true }
     requires printable { AreReplyOptionsPrintable options.now }
     ensures { IfOk result (λ value. value ≡ Bad (faults.fault_text (reply_style options.now) fault.now)) }
 {
@@ -238,7 +238,7 @@ fn body_text<'a>(deck: &'a Deck, name: &[u8]) -> Option<&'a [u8]>
 
 // Returns the reply that states a fault.
 fn refusal(alloc: Global, form: Form, fault: &ReplyFault) -> Result<Reply, AllocError>
-    requires told { faults.is_reply_fault_reportable fault.now ≡ true }
+    requires reportable { faults.is_reply_fault_reportable fault.now ≡ true }
     requires style { IsPrintStyle form.style }
     ensures { IfOk result (λ reply. reply ≡ spec.refusal_reply form fault.now) }
 {

@@ -70,7 +70,7 @@ pub fn evaluate_texts<L: Ledger>(
 ) -> Result<Vec<Quantity>, QueryFault>
     ensures deck { table.new.deck ≡ table.old.deck }
     ensures inquired { call.IsInquiryAnswered (λ values. values.items)
-        (spec.worths (tables.table_of_deck table.old.deck) (call.inquiry_syntaxes trees.now))
+        (spec.values_of_trees (tables.table_of_deck table.old.deck) (call.inquiry_syntaxes trees.now))
         (call.inquiry_result result) table.old table.new steps.old steps.new }
 {
     // The cached outcomes are right even if nothing is queried.
@@ -100,7 +100,7 @@ pub(crate) fn evaluate_text<L: Ledger>(
 ) -> Result<Quantity, Failure>
     ensures deck { table.new.deck ≡ table.old.deck }
     ensures inquired { call.IsInquiryAnswered call.inquiry_identity
-        (spec.text_worth (tables.table_of_deck table.old.deck) text.now) result
+        (spec.value_of_text (tables.table_of_deck table.old.deck) text.now) result
         table.old table.new steps.old steps.new }
 {
     // The cached outcomes are right even if nothing is queried.

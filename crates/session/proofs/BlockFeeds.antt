@@ -91,10 +91,14 @@ pub equal_session_line_is_answered : (base : SessionBase) (talk : SessionTrace) 
     → MatchResult result (λ done. (done ≡ is_last_session_line same) × (held ≡ Some []) × IsAtPointOfTalk base
     (next talk same) now)
     (λ fault. IsTalkBroken fault base talk (same ∷ []) now)
-equal_session_line_is_answered base talk (Ok done) one same held now e h told =
-    (told.0 ∙ ap is_last_session_line e, h, subst (λ l. IsAtPointOfTalk base (next talk l) now) e told.1)
-equal_session_line_is_answered base talk (Err fault) one same held now e h told =
-    subst (λ l. IsTalkBroken fault base talk (l ∷ []) now) e told
+equal_session_line_is_answered base talk (Ok done) one same held now e h line_answered = (
+  line_answered.0 ∙ ap is_last_session_line e,
+  h,
+  subst (λ l. IsAtPointOfTalk base (next talk l) now) e
+      line_answered.1,
+)
+equal_session_line_is_answered base talk (Err fault) one same held now e h line_answered =
+    subst (λ l. IsTalkBroken fault base talk (l ∷ []) now) e line_answered
 
 -- a piece after an empty part is the whole line
 pub piece_after_empty_input_part : (part piece : List ℕ) → is_empty part ≡ true → piece ≡ part ++ piece

@@ -143,12 +143,12 @@ session_waits_after_opening first held said session before opening now w o e f n
 module _ (first : SessionTrace) (taken : List ℕ) (held : Option (List ℕ)) (session : SessionState)
     (before now : SessionOutside)
     (w : SessionWaitsForInput first taken held session before now) where
-  abbrev told : SessionTrace
-  told = talk_over_lines first (whole_input_lines taken)
+  abbrev heard_trace : SessionTrace
+  heard_trace = talk_over_lines first (whole_input_lines taken)
 
   -- the base of a session whose output so far is written
   abbrev pub written : SessionBase
-  written = record { out = told.out; err = told.err; files = before.files; steps = before.steps }
+  written = record { out = heard_trace.out; err = heard_trace.err; files = before.files; steps = before.steps }
 
   -- as long as there is no new output, the session is at the same point
   pub stands : (said : Said) → said.out.items ≡ [] → said.err.items ≡ []
@@ -156,8 +156,8 @@ module _ (first : SessionTrace) (taken : List ℕ) (held : Option (List ℕ)) (s
       (record { said_output = said; session = session; files = now.files; steps = now.steps })
   stands said o e = record {
     is_at = record {
-      out = sym (append-nil told.out) ∙ ap (λ t. told.out ++ t) (sym o);
-      err = sym (append-nil told.err) ∙ ap (λ t. told.err ++ t) (sym e);
+      out = sym (append-nil heard_trace.out) ∙ ap (λ t. heard_trace.out ++ t) (sym o);
+      err = sym (append-nil heard_trace.err) ∙ ap (λ t. heard_trace.err ++ t) (sym e);
       session = w.session;
       files = w.files;
       steps = w.steps;
@@ -171,10 +171,10 @@ module _ (first : SessionTrace) (taken : List ℕ) (held : Option (List ℕ)) (s
       → SinkGrowsByPrefix now.out after.out said.out.items → SinkGrowsByPrefix now.err after.err said.err.items
       → IsSessionOutputFront (talk_output talk) before after
   fronts talk said after b o e = record {
-    out = session_output_front_of_more before.out after.out (told.out ++ said.out.items) talk.out b.out
-        (session_output_front_of_both before.out now.out after.out told.out said.out.items w.out o);
-    err = session_output_front_of_more before.err after.err (told.err ++ said.err.items) talk.err b.err
-        (session_output_front_of_both before.err now.err after.err told.err said.err.items w.err e);
+    out = session_output_front_of_more before.out after.out (heard_trace.out ++ said.out.items) talk.out b.out
+        (session_output_front_of_both before.out now.out after.out heard_trace.out said.out.items w.out o);
+    err = session_output_front_of_more before.err after.err (heard_trace.err ++ said.err.items) talk.err b.err
+        (session_output_front_of_both before.err now.err after.err heard_trace.err said.err.items w.err e);
   }
 
   -- the output is a part of the whole, according to how far the talk is answered
@@ -200,10 +200,10 @@ module _ (first : SessionTrace) (taken : List ℕ) (held : Option (List ℕ)) (s
       → SessionWaitsForInput first front held_now new before after
   waits_after_output front held_now said new after s o e = record {
     out = o ∙ ap (λ p. sink_bytes_append p said.out.items) w.out
-        ∙ session_sink_grows_twice before.out told.out said.out.items
+        ∙ session_sink_grows_twice before.out heard_trace.out said.out.items
         ∙ ap (sink_bytes_append before.out) (sym s.is_at.out);
     err = e ∙ ap (λ p. sink_bytes_append p said.err.items) w.err
-        ∙ session_sink_grows_twice before.err told.err said.err.items
+        ∙ session_sink_grows_twice before.err heard_trace.err said.err.items
         ∙ ap (sink_bytes_append before.err) (sym s.is_at.err);
     files = s.is_at.files;
     steps = s.is_at.steps;
@@ -220,10 +220,10 @@ module _ (first : SessionTrace) (taken : List ℕ) (held : Option (List ℕ)) (s
       → IsAllSessionOutput (talk_output talk) before after
   all_after_talk talk said new after at o e = record {
     out = o ∙ ap (λ p. sink_bytes_append p said.out.items) w.out
-        ∙ session_sink_grows_twice before.out told.out said.out.items
+        ∙ session_sink_grows_twice before.out heard_trace.out said.out.items
         ∙ ap (sink_bytes_append before.out) (sym at.out);
     err = e ∙ ap (λ p. sink_bytes_append p said.err.items) w.err
-        ∙ session_sink_grows_twice before.err told.err said.err.items
+        ∙ session_sink_grows_twice before.err heard_trace.err said.err.items
         ∙ ap (sink_bytes_append before.err) (sym at.err);
     files = at.files;
     steps = at.steps;
@@ -258,8 +258,8 @@ module _ (first : SessionTrace) (taken : List ℕ) (held : Option (List ℕ)) (s
         lines_left = more.0;
         lines_split = ap (λ i. heard_lines (input_lines i)) p ∙ more.1;
         output_front = record {
-          out = all_session_output_is_front before.out after.out told.out (o ∙ w.out);
-          err = all_session_output_is_front before.err after.err told.err (e ∙ w.err);
+          out = all_session_output_is_front before.out after.out heard_trace.out (o ∙ w.out);
+          err = all_session_output_is_front before.err after.err heard_trace.err (e ∙ w.err);
         };
         files = f ∙ w.files;
       }

@@ -147,9 +147,12 @@ talk_breaks_off_at_first_line fault base talk lines now at = record {
 }
 
 -- the files after a save that failed
-session_files_after_failed_save : (told : Option FileMap) (left : FileMap) (part name : List ℕ) (files : Option FileMap)
-    → heard_line_save_name part ≡ Some name → SessionKeepsOtherFiles name (next_session_value_if_known told left) files
-    → (m : FileMap) × (files ≡ next_session_value_if_known told m) × AreFilesLeftBySession (WriteFailed ≡ WriteFailed)
+session_files_after_failed_save : (files_if_known : Option FileMap) (left : FileMap) (part name : List ℕ)
+    (files : Option FileMap)
+    → heard_line_save_name part ≡ Some name
+    → SessionKeepsOtherFiles name (next_session_value_if_known files_if_known left) files
+    → (m : FileMap) × (files ≡ next_session_value_if_known files_if_known m) × AreFilesLeftBySession
+    (WriteFailed ≡ WriteFailed)
     (part ∷ []) left m
 session_files_after_failed_save None left part name files e kept = (left, kept, inl refl)
 session_files_after_failed_save (Some old) left part name files e kept = (
@@ -170,22 +173,27 @@ session_files_after_failed_save (Some old) left part name files e kept = (
 )
 
 -- the files after a line that was not answered
-pub session_files_after_failed_line : (A : Type 0) (told : Option FileMap) (talk : SessionTrace) (part : List ℕ)
+pub session_files_after_failed_line : (A : Type 0) (files_if_known : Option FileMap) (talk : SessionTrace)
+    (part : List ℕ)
     (fault : SessionFault)
     (files : Option FileMap)
     → SessionLineKeepsFiles {A = A} (heard_line_save_name part) (Err fault)
-    (next_session_value_if_known told talk.state.files) files
-    → (m : FileMap) × (files ≡ next_session_value_if_known told m) × AreFilesLeftBySession (fault ≡ WriteFailed)
+    (next_session_value_if_known files_if_known talk.state.files) files
+    → (m : FileMap) × (files ≡ next_session_value_if_known files_if_known m) × AreFilesLeftBySession
+    (fault ≡ WriteFailed)
     (part ∷ []) talk.state.files m
-session_files_after_failed_line A told talk part fault files kept = by (heard_line_save_name part) refl fault kept
+session_files_after_failed_line A files_if_known talk part fault files kept = by (heard_line_save_name part) refl fault
+    kept
   where
     by : (named : Option (List ℕ)) → heard_line_save_name part ≡ named → (f : SessionFault)
-        → SessionLineKeepsFiles {A = A} named (Err f) (next_session_value_if_known told talk.state.files) files
-        → (m : FileMap) × (files ≡ next_session_value_if_known told m) × AreFilesLeftBySession (f ≡ WriteFailed)
+        → SessionLineKeepsFiles {A = A} named (Err f) (next_session_value_if_known files_if_known talk.state.files)
+        files
+        → (m : FileMap) × (files ≡ next_session_value_if_known files_if_known m) × AreFilesLeftBySession
+        (f ≡ WriteFailed)
         (part ∷ []) talk.state.files m
     by None e f k = (talk.state.files, k, inl refl)
     by (Some name) e ReadFailed k = (talk.state.files, k, inl refl)
-    by (Some name) e WriteFailed k = session_files_after_failed_save told talk.state.files part name files e k
+    by (Some name) e WriteFailed k = session_files_after_failed_save files_if_known talk.state.files part name files e k
     by (Some name) e OutOfMemory k = (talk.state.files, k, inl refl)
 
 module _ (fault : SessionFault) (base : SessionBase) (first : SessionTrace) (taken : List ℕ) (held : Option (List ℕ))

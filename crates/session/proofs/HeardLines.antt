@@ -178,11 +178,11 @@ module _ (taken block ready rest : List ℕ) (held : Option (List ℕ)) (b : blo
     line_names_none more none = line_has_none heard_line_names_file more none
 
     -- files that are known if a line loads one are known if this line does
-    pub line_told : (more : List ℕ) (files : Option FileMap)
+    pub line_is_known : (more : List ℕ) (files : Option FileMap)
         → IsSessionValueKnownIfNeeded (heard_input_loads_file ((taken ++ block) ++ more)) files
         → IsSessionValueKnownIfNeeded (heard_line_loads_file ended) files
-    line_told more None told = line_has_none heard_line_loads_file more told
-    line_told more (Some old) told = tt
+    line_is_known more None loads_known = line_has_none heard_line_loads_file more loads_known
+    line_is_known more (Some old) loads_known = tt
 
 -- the last line, which no line feed ends
 module _ (input : List ℕ) (held : Option (List ℕ)) (h : HoldsInputRest input held)
@@ -196,20 +196,20 @@ module _ (input : List ℕ) (held : Option (List ℕ)) (h : HoldsInputRest input
   pub end_names_none : HeardInputNamesNoFile input → heard_line_names_file (unfinished_input_line input) ≡ false
   end_names_none none = end_has_none heard_line_names_file none
 
-  pub end_told : (files : Option FileMap) → IsSessionValueKnownIfNeeded (heard_input_loads_file input) files
+  pub end_is_known : (files : Option FileMap) → IsSessionValueKnownIfNeeded (heard_input_loads_file input) files
       → IsSessionValueKnownIfNeeded (heard_line_loads_file (unfinished_input_line input)) files
-  end_told None told = end_has_none heard_line_loads_file told
-  end_told (Some old) told = tt
+  end_is_known None loads_known = end_has_none heard_line_loads_file loads_known
+  end_is_known (Some old) loads_known = tt
 
 -- an equal line loads a file exactly if this line does
 pub equal_heard_line_loads_file : (line same : List ℕ) (files : Option FileMap) → line ≡ same
     → IsSessionValueKnownIfNeeded (heard_line_loads_file same) files
     → IsSessionValueKnownIfNeeded (heard_line_loads_file line) files
-equal_heard_line_loads_file line same files e told =
-    subst (λ l. IsSessionValueKnownIfNeeded (heard_line_loads_file l) files) (sym e) told
+equal_heard_line_loads_file line same files e loads_known =
+    subst (λ l. IsSessionValueKnownIfNeeded (heard_line_loads_file l) files) (sym e) loads_known
 
 pub equal_heard_input_loads_file : (i input : List ℕ) (files : Option FileMap) → i ≡ input
     → IsSessionValueKnownIfNeeded (heard_input_loads_file input) files
     → IsSessionValueKnownIfNeeded (heard_input_loads_file i) files
-equal_heard_input_loads_file i input files e told =
-    subst (λ t. IsSessionValueKnownIfNeeded (heard_input_loads_file t) files) (sym e) told
+equal_heard_input_loads_file i input files e loads_known =
+    subst (λ t. IsSessionValueKnownIfNeeded (heard_input_loads_file t) files) (sym e) loads_known

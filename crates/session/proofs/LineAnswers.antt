@@ -39,7 +39,7 @@ use Rattle.watch.specs.WatchViews.{watch_subject}
 session_files_stay_as_known : (needed : Bool) (files : Option FileMap) (m : FileMap)
     → IsSessionValueIfKnown needed files m → files ≡ next_session_value_if_known files m
 session_files_stay_as_known needed None m h = refl
-session_files_stay_as_known needed (Some told) m h = ap Some h
+session_files_stay_as_known needed (Some files_if_known) m h = ap Some h
 
 -- if a file is needed, the contents of the files are known
 pub needed_session_files_are_known : {X : Type 0} (needed : Bool) (files : Option X) (m : X) → needed ≡ true
@@ -47,7 +47,7 @@ pub needed_session_files_are_known : {X : Type 0} (needed : Bool) (files : Optio
     → files ≡ Some m
 needed_session_files_are_known true None m e h = cc
 needed_session_files_are_known false None m e h = cc
-needed_session_files_are_known needed (Some told) m e h = ap Some h
+needed_session_files_are_known needed (Some files_if_known) m e h = ap Some h
 
 -- files with known contents can be used, needed or not
 pub known_session_files_are_usable : (needed : Bool) (files : Option FileMap) (m : FileMap) → files ≡ Some m
@@ -61,9 +61,9 @@ session_files_known_twice None m new = refl
 session_files_known_twice (Some old) m new = refl
 
 -- the files can be used for a line if they are known whenever it loads a file
-session_files_serve_loading_line : (loads : Bool) (told files : Option FileMap) (m : FileMap)
-    → IsSessionValueKnownIfNeeded loads told
-    → files ≡ next_session_value_if_known told m → IsSessionValueIfKnown loads files m
+session_files_serve_loading_line : (loads : Bool) (files_if_known files : Option FileMap) (m : FileMap)
+    → IsSessionValueKnownIfNeeded loads files_if_known
+    → files ≡ next_session_value_if_known files_if_known m → IsSessionValueIfKnown loads files m
 session_files_serve_loading_line loads None files m needed e = subst (λ f. IsSessionValueIfKnown loads f m)
     (sym e) needed
 session_files_serve_loading_line loads (Some old) files m needed e = known_session_files_are_usable loads files m e
@@ -160,15 +160,15 @@ pub session_save_is_answered : (result : Result LineReply SessionFault) (session
     (name : List ℕ)
     (needed : Bool) (files after : Option FileMap) (steps : ℕ) → IsSessionValueIfKnown needed files m
     → IfOk result (λ reply. IsSessionLineReply reply (session_save_reply (saved_file session.table.deck) name) [] false)
-    → OnOk result ((told : FileMap) → files ≡ Some told
-    → after ≡ Some (files_after_session_save (saved_file session.table.deck) name told))
+    → OnOk result ((files_if_known : FileMap) → files ≡ Some files_if_known
+    → after ≡ Some (files_after_session_save (saved_file session.table.deck) name files_if_known))
     → (files ≡ None → after ≡ None)
     → IsSessionLineAnswered (session_answer_to (session_and_files session m) (command.Save name)) result
     (record { session = session; files = files; steps = steps })
     (record { session = session; files = after; steps = steps })
 unfolding session_answer_to
-session_save_is_answered (Err fault) session m name needed files after steps h line saved untold = tt
-session_save_is_answered (Ok reply) session m name needed files after steps h line saved untold = record {
+session_save_is_answered (Err fault) session m name needed files after steps h line saved if_unknown = tt
+session_save_is_answered (Ok reply) session m name needed files after steps h line saved if_unknown = record {
   out = line.out;
   err = line.err;
   session = refl;
@@ -178,11 +178,12 @@ session_save_is_answered (Ok reply) session m name needed files after steps h li
   where
     by : (o : Option FileMap) → files ≡ o
         → after ≡ next_session_value_if_known files (files_after_session_save (saved_file session.table.deck) name m)
-    by None e = untold e ∙ sym
+    by None e = if_unknown e ∙ sym
         (ap (λ f. next_session_value_if_known f (files_after_session_save (saved_file session.table.deck) name m)) e)
-    by (Some told) e =
-        let same : told ≡ m = subst (λ f. IsSessionValueIfKnown needed f m) e h in
-        saved told e ∙ ap (λ (f : FileMap). Some (files_after_session_save (saved_file session.table.deck) name f)) same
+    by (Some files_if_known) e =
+        let same : files_if_known ≡ m = subst (λ f. IsSessionValueIfKnown needed f m) e h in
+        saved files_if_known e
+        ∙ ap (λ (f : FileMap). Some (files_after_session_save (saved_file session.table.deck) name f)) same
         ∙ sym (ap (λ f. next_session_value_if_known f (files_after_session_save (saved_file session.table.deck) name m))
         e)
 
@@ -201,9 +202,10 @@ module _ (base : SessionBase) (talk : SessionTrace) (part : List ℕ) (said : Sa
     pub files_serve_line : (line : Option (List ℕ)) → line ≡ readable_session_line part
         → IsSessionValueKnownIfNeeded (heard_line_loads_file part) base.files
         → IsSessionValueIfKnown (read_session_line_loads_file line) files talk.state.files
-    files_serve_line line heard told =
+    files_serve_line line heard files_if_known =
         session_files_serve_loading_line (read_session_line_loads_file line) base.files files talk.state.files
-        (subst (λ l. IsSessionValueKnownIfNeeded (read_session_line_loads_file l) base.files) (sym heard) told) at.files
+        (subst (λ l. IsSessionValueKnownIfNeeded (read_session_line_loads_file l) base.files)
+        (sym heard) files_if_known) at.files
 
     module _ (line : Option (List ℕ)) (heard : line ≡ readable_session_line part) (reply : LineReply)
         (session_now : SessionState)

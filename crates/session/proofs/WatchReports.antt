@@ -90,8 +90,8 @@ module _ (r : EditResult) (notices : List ℕ) (options : Options) (pending : Op
         → reply.err ≡ notices
         → Said (session_edit_answer r notices was) reply
         (session_of_versions options (session_table_with_versions new after) pending watched_now) n k
-    made_answered told noticed =
+    made_answered report_text noticed =
         subst (λ (e : EditResult). Said (session_edit_answer e notices was) reply
         (session_of_versions options (session_table_with_versions new after) pending watched_now) n k)
         (sym makes.result_is)
-        (record { out = told; err = noticed; session = behind; steps = left.steps })
+        (record { out = report_text; err = noticed; session = behind; steps = left.steps })

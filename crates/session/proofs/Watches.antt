@@ -66,14 +66,14 @@ module _ (options : Options) (pending : Option (List ℕ)) (versions : Versions)
       → Said (session_watch_answer (is_session_watch_list_full (map subject_of_watch watches)) s
       (session_and_files (session_of options old pending versions (map subject_of_watch watches)) m)) reply
       (session_of options new pending versions (map subject_of_watch now)) n k
-  watch_answered room told quiet added asked deck =
+  watch_answered room report_text quiet added asked deck =
       let left : LeavesSessionTable events old new n k = leaves events old new n k asked in
       subst (λ (full : Bool). Said (session_watch_answer full s
       (session_and_files (session_of options old pending versions (map subject_of_watch watches)) m)) reply
       (session_of options new pending versions (map subject_of_watch now)) n k)
       (sym (session_watch_list_is_not_full watches room))
       (record {
-        out = told ∙ ap (λ (count : ℕ). watch_notice (count + 1) (reply_to (table_in old.deck) options s))
+        out = report_text ∙ ap (λ (count : ℕ). watch_notice (count + 1) (reply_to (table_in old.deck) options s))
             (sym (length-map watches subject_of_watch));
         err = quiet;
         session =

@@ -6,8 +6,8 @@ use Rattle.session.specs.Trials.{Trial}
 use Rattle.session.specs.declared.session_output.Said.{Said}
 
 -- the summary of a trial, and the count of settled names
-pub record IsTrialSummary (trial : Trial) (told : List ℕ) (steps_old steps_new : ℕ) : Type 0 where
-  pub text : told ≡ trial.text
+pub record IsTrialSummary (trial : Trial) (summary_text : List ℕ) (steps_old steps_new : ℕ) : Type 0 where
+  pub text : summary_text ≡ trial.text
   pub steps : steps_new ≡ steps_old + trial.steps
 
 -- a session has put all of a talk on `out`, and is in the state after it

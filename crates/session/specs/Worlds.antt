@@ -27,9 +27,9 @@ pub record SessionFilesSeen : Type 0 where
   pub fetch_faults : ℕ
   pub store_faults : ℕ
 
-abbrev pub session_files_seen : (told : Option FileMap) → (fetch_faults store_faults : ℕ) → SessionFilesSeen
-session_files_seen told fetch_faults store_faults =
-    record { known_files = told; fetch_faults = fetch_faults; store_faults = store_faults }
+abbrev pub session_files_seen : (files_if_known : Option FileMap) → (fetch_faults store_faults : ℕ) → SessionFilesSeen
+session_files_seen files_if_known fetch_faults store_faults =
+    record { known_files = files_if_known; fetch_faults = fetch_faults; store_faults = store_faults }
 
 -- everything that a run touches, and the count of steps
 pub record SessionWorld : Type 0 where

@@ -220,7 +220,7 @@ fn save<F: Files>(
     ensures saved { OnOk result ((m : FileMap) → F.files files.old ≡ Some m →
         F.files files.new ≡ Some (files_after_session_save (saved_file deck.now) name.now m)) }
     ensures failed { SessionSaveKeepsFiles name.now result (F.files files.old) (F.files files.new) }
-    ensures untold { F.files files.old ≡ None → F.files files.new ≡ None }
+    ensures if_unknown { F.files files.old ≡ None → F.files files.new ≡ None }
     ensures fetches { F.faults files.new ≡ F.faults files.old }
     ensures later { F.store_faults files.old ≤ F.store_faults files.new }
     ensures unread { IsErrOf result SessionFault.ReadFailed → ⊥ }
@@ -245,10 +245,10 @@ fn store<F: Files>(
     files: &mut F,
 ) -> Result<(), SessionFault>
     requires { length bytes.now ≤ longest_file }
-    ensures told { OnOk result ((m : FileMap) → F.files files.old ≡ Some m →
+    ensures if_known { OnOk result ((m : FileMap) → F.files files.old ≡ Some m →
         F.files files.new ≡ Some (with_file m name.now bytes.now)) }
     ensures failed { SessionSaveKeepsFiles name.now result (F.files files.old) (F.files files.new) }
-    ensures untold { F.files files.old ≡ None → F.files files.new ≡ None }
+    ensures if_unknown { F.files files.old ≡ None → F.files files.new ≡ None }
     ensures fetches { F.faults files.new ≡ F.faults files.old }
     ensures later { F.store_faults files.old ≤ F.store_faults files.new }
     ensures unread { IsErrOf result SessionFault.ReadFailed → ⊥ }

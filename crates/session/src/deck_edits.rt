@@ -236,7 +236,7 @@ pub(crate) fn refusal_line(
 ) -> Result<Text, SessionFault>
     requires { spec.is_session_line_refusal fault ≡ true }
     ensures line { IfOk result (λ line. line ≡ lines.session_line_of_text (spec.session_refusal_text fault named.now)) }
-    ensures told { IfOk result (λ _. spec.is_session_refusal fault ≡ true) }
+    ensures is_refusal { IfOk result (λ _. spec.is_session_refusal fault ≡ true) }
     ensures read { IsErrOf result SessionFault.ReadFailed ↔ (fault ≡ deck_fault.ReadFailed) }
     ensures unwritten { IsErrOf result SessionFault.WriteFailed → ⊥ }
 {

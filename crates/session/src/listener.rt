@@ -55,7 +55,7 @@ impl Listener {
         steps: &mut Steps<L>,
         rest: &mut &[u8],
     ) -> Result<bool, SessionFault>
-        ensures told { (base : SessionBase) (first : SessionTrace) (taken more : List ℕ) →
+        ensures on_trace { (base : SessionBase) (first : SessionTrace) (taken more : List ℕ) →
             IsSessionValueKnownIfNeeded (heard_input_loads_file ((taken ++ rest.old.now) ++ more)) base.files →
             IsTalkAtWholeLines base first taken self.old.held
             (session_now_of self.old.talk.said self.old.talk.session (F.files files.old) steps.old) →
@@ -95,7 +95,7 @@ impl Listener {
         files: &mut F,
         steps: &mut Steps<L>,
     ) -> Result<(), SessionFault>
-        ensures told { (base : SessionBase) (first : SessionTrace) (input : List ℕ) →
+        ensures on_trace { (base : SessionBase) (first : SessionTrace) (input : List ℕ) →
             IsSessionValueKnownIfNeeded (heard_input_loads_file input) base.files
             → IsTalkAtWholeLines base first input self.old.held
             (session_now_of self.old.talk.said self.old.talk.session (F.files files.old) steps.old) →
@@ -126,7 +126,7 @@ impl Listener {
         steps: &mut Steps<L>,
         piece: &[u8],
     ) -> Result<bool, SessionFault>
-        ensures told { (base : SessionBase) (talk : SessionTrace) (part : List ℕ) → self.old.held
+        ensures on_trace { (base : SessionBase) (talk : SessionTrace) (part : List ℕ) → self.old.held
             ≡ readable_session_line part →
             IsSessionValueKnownIfNeeded (heard_line_loads_file (part ++ piece.now)) base.files
             → IsAtPointOfTalk base talk

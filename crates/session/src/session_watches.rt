@@ -34,8 +34,9 @@ pub(crate) fn report_changes<L: Ledger>(
     steps: &mut Steps<L>,
 ) -> Result<Text, AllocError>
     requires { AreReplyOptionsPrintable options.now }
-    ensures told { (before : EntryTable) → AreCurrent before options.now watches.old → IfOk result (λ text. text
-        ≡ report_by_edit before (tables.table_of_deck table.old.deck) options.now (map subject_of_watch watches.old)) }
+    ensures reported_changes { (before : EntryTable) → AreCurrent before options.now watches.old → IfOk result (λ text.
+        text ≡ report_by_edit before (tables.table_of_deck table.old.deck) options.now
+        (map subject_of_watch watches.old)) }
     ensures watched { OnOk result (map subject_of_watch watches.new ≡ map subject_of_watch watches.old) }
     ensures current { AreCurrent (tables.table_of_deck table.new.deck) options.now watches.new }
     ensures queries { AreLiveQueries

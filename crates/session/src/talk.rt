@@ -42,7 +42,7 @@ impl Talk {
         steps: &mut Steps<L>,
     ) -> Result<bool, SessionFault>
         requires { IfSome line (λ line. length line.now ≤ longest_session_line) }
-        ensures told { (base : SessionBase) (talk : SessionTrace) (part : List ℕ) → option_copied line.entry
+        ensures on_trace { (base : SessionBase) (talk : SessionTrace) (part : List ℕ) → option_copied line.entry
             ≡ readable_session_line part →
             IsSessionValueKnownIfNeeded (heard_line_loads_file part) base.files → IsAtPointOfTalk base talk
             (session_now_of self.old.said self.old.session (F.files files.old) steps.old) →

@@ -66,8 +66,9 @@ module _ (table : EntryTable) (k : Key) (k_open : IsClosedKey table k → ⊥) w
     pub none_closed : AreOpen table path
 
   -- the fault of words without the key in front, reported as the prefix does, is the fault after the key
-  abbrev IsTold : List Key → List WordUse → NameFault → Type 0
-  IsTold path words f = (g : NameFault) × (words_fault table path words ≡ Some g) × (checked_prefix_fault k g ≡ f)
+  abbrev IsReportableResult : List Key → List WordUse → NameFault → Type 0
+  IsReportableResult path words f =
+      (g : NameFault) × (words_fault table path words ≡ Some g) × (checked_prefix_fault k g ≡ f)
 
   -- after the key the chain comes back to it; without the key, the words of the key are followed after the way to it
   record IsBack (path : List Key) (words : List WordUse) (f : NameFault) : Type 0 where
@@ -79,7 +80,8 @@ module _ (table : EntryTable) (k : Key) (k_open : IsClosedKey table k → ⊥) w
 
   abbrev Comes : List Key → List WordUse → Type 0
   Comes path words =
-      (f : NameFault) × (words_fault table (k ∷ path) words ≡ Some f) × (IsTold path words f ⊎ IsBack path words f)
+      (f : NameFault) × (words_fault table (k ∷ path) words ≡ Some f)
+      × (IsReportableResult path words f ⊎ IsBack path words f)
 
   behind_open : (path : List Key) → AreOpen table path → AreOpen table (k ∷ path)
   behind_open path none n on closed = go (is_same_entry_key n k) refl on
@@ -256,9 +258,10 @@ module _ (table : EntryTable) (k : Key) (k_open : IsClosedKey table k → ⊥) w
   abbrev IsSame : Option NameFault → Option NameFault → Type 0
   IsSame behind without = behind ≡ option_map (checked_prefix_fault k) without
 
-  told_same : (f g : NameFault) (o p : Option NameFault) → o ≡ Some f → p ≡ Some g → checked_prefix_fault k g ≡ f
+  reported_faults_are_same : (f g : NameFault) (o p : Option NameFault) → o ≡ Some f → p ≡ Some g
+      → checked_prefix_fault k g ≡ f
       → IsSame o p
-  told_same f g o p e q h = e ∙ (ap Some (sym h) ∙ ap (option_map (checked_prefix_fault k)) (sym q))
+  reported_faults_are_same f g o p e q h = e ∙ (ap Some (sym h) ∙ ap (option_map (checked_prefix_fault k)) (sym q))
 
   -- the case in which the first step leads to a key
   at_key : is_entry_present table k ≡ true → (h : Key) → (IsClosedKey table h → ⊥)
@@ -280,7 +283,7 @@ module _ (table : EntryTable) (k : Key) (k_open : IsClosedKey table k → ⊥) w
       let q : words_fault table [] (table_words_of_key table k) ≡ Some (Cycle (k ∷ (h ∷ []))) =
       steps [] b.without b.none_closed
       ∙ (ap (λ (x : Key). by_words table (x ∷ []) x) hk ∙ p) in
-      told_same (Cycle (k ∷ (h ∷ []))) (Cycle (k ∷ (h ∷ []))) _ _ p q
+      reported_faults_are_same (Cycle (k ∷ (h ∷ []))) (Cycle (k ∷ (h ∷ []))) _ _ p q
       (subst (λ (x : Key). checked_prefix_fault k (Cycle (k ∷ (x ∷ []))) ≡ Cycle (k ∷ (x ∷ []))) (sym hk)
       (ap Cycle (turned_here k)))
   at_key there h h_open steps false e =
@@ -306,12 +309,12 @@ module _ (table : EntryTable) (k : Key) (k_open : IsClosedKey table k → ⊥) w
       go : Comes (h ∷ []) (table_words_of_key table h)
           → IsSame (words_fault table (k ∷ []) (table_words_of_key table k))
           (words_fault table [] (table_words_of_key table k))
-      go (f, is, inl r) = told_same f r.0 _ _ (p (alone there) ∙ is) (q (alone there) ∙ r.1) r.2
+      go (f, is, inl r) = reported_faults_are_same f r.0 _ _ (p (alone there) ∙ is) (q (alone there) ∙ r.1) r.2
       go (f, is, inr r) =
           let c : IsNameFaultPath table (r.way ++ k ∷ []) × AreOpen table (r.way ++ k ∷ []) =
           closing r.way r.both there in
           let w = round r.way h (r.begins h refl) r.both.off in
-          told_same f w.0 _ _ (p (alone there) ∙ is)
+          reported_faults_are_same f w.0 _ _ (p (alone there) ∙ is)
           (q (alone there) ∙ (r.goes ∙ (steps (r.way ++ k ∷ []) c.0 c.1 ∙ w.1))) (w.2 ∙ sym r.is)
 
   -- the law, by the first step
@@ -323,11 +326,11 @@ module _ (table : EntryTable) (k : Key) (k_open : IsClosedKey table k → ⊥) w
   at_step there None some fits = absurd (some refl)
   at_step there (Some (Lost w)) some fits =
       let b : IsBoth [] = alone there in
-      told_same (Unknown w (Some k)) (Unknown w None) _ _
+      reported_faults_are_same (Unknown w (Some k)) (Unknown w None) _ _
       (fits (k ∷ []) b.behind (behind_open [] b.none_closed)).0 (fits [] b.without b.none_closed).0 refl
   at_step there (Some (Barred w)) some fits =
       let b : IsBoth [] = alone there in
-      told_same (Refused w (Some k)) (Refused w None) _ _
+      reported_faults_are_same (Refused w (Some k)) (Refused w None) _ _
       (fits (k ∷ []) b.behind (behind_open [] b.none_closed)).0 (fits [] b.without b.none_closed).0 refl
   at_step there (Some (Open h h_open)) some fits =
       at_key there h h_open (λ path is none. (fits path is none).0) (is_same_entry_key h k) refl

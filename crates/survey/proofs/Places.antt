@@ -9,7 +9,7 @@ use Rattle.deck.specs.PlacedKeys.{deck_key_at_place, deck_keys_at_places}
 use Rattle.deck.specs.Tables.{table_of_deck}
 use Rattle.live_table.specs.States.{LiveEvent}
 use Rattle.survey.specs.Checks.{check_line, key_finding}
-use Rattle.survey.specs.Conformable.{conforming_row, unit_worth}
+use Rattle.survey.specs.Conformable.{conforming_row, value_of_unit}
 use Rattle.survey.specs.Places.{conformable_unit_at_place, search_hits_of_key}
 
 -- what the keys at places give is what the places give, one after another
@@ -43,5 +43,5 @@ module _ (deck : DeckContents) where
       (conformable_unit_at_place deck place)
 
   abbrev pub unit_queries_at : ℕ → List LiveEvent
-  unit_queries_at place = search_hits_of_key (λ k. (unit_worth (table_of_deck deck) k).events)
+  unit_queries_at place = search_hits_of_key (λ k. (value_of_unit (table_of_deck deck) k).events)
       (conformable_unit_at_place deck place)

@@ -15,11 +15,11 @@ use Rattle.survey.specs.Checks.{checked_prefix_values, sound_finding}
 
 module _ {A : Type 0} (seen : A → List Amount) (k : Key) (m : Inquiry (List Amount)) (a b : LiveView) (n l : ℕ) where
   -- the names of the body have a fault, and memory runs out before it can be reported
-  pub prefix-untold : (fault : NameFault) → b.deck ≡ a.deck
+  pub prefix-unreported : (fault : NameFault) → b.deck ≡ a.deck
       → IsInquiryAnswered seen m (Err (inquiry_failure (query.Name fault))) a b n l
       → IsInquiryAnswered inquiry_identity (sound_finding (checked_prefix_values k m))
       (Err (inquiry_failure query.OutOfMemory)) a b n l
-  prefix-untold fault deck h =
+  prefix-unreported fault deck h =
       then-failed inquiry_identity (checked_prefix_values k m) (λ _. inquiry_without_queries (Ok Sound)) seen
       (inquiry_failure query.OutOfMemory) a b n l
       (inquiry_queries_cut_after_last m.events a b n l deck h.1)

@@ -6,7 +6,7 @@ use Rattle.tree_eval.specs.Steps.{ValueOrFault}
 use Rattle.table_names.specs.declared.fault.NameFault.{NameFault}
 use Rattle.live_table.specs.declared.fault.QueryFault.{QueryFault}
 use Rattle.live_table.specs.declared.fault.QueryFault.TheVariants as query
-use Rattle.live_table.specs.Answers.{IsLiveQueryResult, live_answer_of_worth}
+use Rattle.live_table.specs.Answers.{IsLiveQueryResult, live_answer_of_value}
 use Rattle.live_table.specs.Calls.{IsLiveQuery}
 use Rattle.live_table.specs.TableView.{IsAfterLiveEvents, LiveView}
 use Rattle.live_table.specs.States.{LiveEvent}
@@ -26,13 +26,13 @@ module _ (e : LiveEvent) (fault : Option NameFault) (w : ValueOrFault) (a b : Li
       b n m
 
   answered : IsAfterLiveEvents (e ∷ []) a b n m → (f : Option NameFault) (w : ValueOrFault) → f ≡ fault
-      → answers-names (live_answer_of_worth f w)
+      → answers-names (live_answer_of_value f w)
   answered h (Some f) w is = (ap check_names_answer (sym is), h)
   answered h None (Ok x) is = (ap check_names_answer (sym is), h)
   answered h None (Err v) is = (ap check_names_answer (sym is), h)
 
   -- the result is the fault of the names, or there is none
-  pub names-inquired : (r : Result Amount QueryFault) → IsLiveQueryResult r (live_answer_of_worth fault w)
+  pub names-inquired : (r : Result Amount QueryFault) → IsLiveQueryResult r (live_answer_of_value fault w)
       → IsLiveQuery e r a b n m
       → answers-names r
   names-inquired (Ok x) h q = elim h [

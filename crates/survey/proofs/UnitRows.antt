@@ -22,7 +22,7 @@ use Rattle.live_table.proofs.QuerySequence.{no_live_events_keep_view}
 use Rattle.reply.specs.declared.fault.ReplyFault.{ReplyFault}
 use Rattle.reply.specs.Calls.{IsInquiryAnswered, inquiry_identity, inquiry_result}
 use Rattle.reply.specs.Inquiries.{inquiry_answer, tree_value}
-use Rattle.survey.specs.Conformable.{conforming_row, is_conformable_result, unit_worth}
+use Rattle.survey.specs.Conformable.{conforming_row, is_conformable_result, value_of_unit}
 use Rattle.survey.specs.Places.{conformable_unit_at_place, conformable_unit_key, search_hits_of_key}
 use Rattle.survey.specs.Rows.{search_hit_row_of_key}
 use Rattle.survey.proofs.Findings.{are-made, is-answer}
@@ -111,7 +111,7 @@ module _ (deck : DeckContents) (place : ℕ)
   pub no-query : (a : LiveView) (n : ℕ) → IsRightLiveView a → IsAfterLiveEvents (unit_queries_at deck place) a a n n
   no-query a n right =
       subst (λ (o : Option Key).
-      IsAfterLiveEvents (search_hits_of_key (λ k. (unit_worth (table_of_deck deck) k).events) o) a a n n)
+      IsAfterLiveEvents (search_hits_of_key (λ k. (value_of_unit (table_of_deck deck) k).events) o) a a n n)
       (sym (no-conformable-unit-without-word (conformable_unit_at_place deck place) none))
       (no_live_events_keep_view a n right)
 
@@ -124,10 +124,11 @@ module _ (deck : DeckContents) (place : ℕ) (a b : LiveView) (n l : ℕ) (found
   key-asked : (k : Key) → conformable_unit_at_place deck place ≡ Some k → finds (Word k.name) → b.deck ≡ a.deck
       → AreLiveQueries (unit_queries_at deck place) q a b n l
   key-asked k there h same_deck =
-      subst (λ (o : Option Key). AreLiveQueries (search_hits_of_key (λ k. (unit_worth (table_of_deck deck) k).events) o)
+      subst (λ (o : Option Key).
+      AreLiveQueries (search_hits_of_key (λ k. (value_of_unit (table_of_deck deck) k).events) o)
       q a b n l)
       (sym there)
-      (are-made (unit_worth (table_of_deck deck) k) a b n l found same_deck h q memory)
+      (are-made (value_of_unit (table_of_deck deck) k) a b n l found same_deck h q memory)
 
   -- the word of the unit was queried, whether or not memory ran out afterwards
   pub word-asked : (tree : Syntax) → Some tree ≡ option_map (λ k. Word k.name) (conformable_unit_at_place deck place)
@@ -139,13 +140,13 @@ module _ (deck : DeckContents) (place : ℕ) (a b : LiveView) (n l : ℕ) (found
 
 -- a row, if the value of a unit conforms
 abbrev if-conforming : Amount → EntryTable → Key → List ℕ → List ℕ
-if-conforming from t k row = if is_conformable_result from (unit_worth t k).answer then row else []
+if-conforming from t k row = if is_conformable_result from (value_of_unit t k).answer then row else []
 
 -- the result found conforms exactly if the value of the unit does
 conformable-key-by-unit-value : (from : Amount) (deck : DeckContents) (place : ℕ) (k : Key)
     → conformable_unit_at_place deck place ≡ Some k
     → (a b : LiveView) (n l : ℕ) (found : Result Amount QueryFault)
-    → IsInquiryAnswered inquiry_identity (unit_worth (table_of_deck deck) k) (inquiry_result found) a b n l
+    → IsInquiryAnswered inquiry_identity (value_of_unit (table_of_deck deck) k) (inquiry_result found) a b n l
     → (seen : DeckContents) → seen ≡ deck → (before after : List ℕ) (q : Result (Unit {0}) AllocError)
     → OnOk q (after ≡ before ++ (if is_conformable_result from (inquiry_answer found)
     then search_hits_of_key (search_hit_row_of_key (table_of_deck seen)) (deck_key_at_place seen.lines place) else []))
@@ -155,7 +156,7 @@ conformable-key-by-unit-value from deck place k there a b n l found h seen is be
     row
     ∙ ap (λ (x : Result Amount ReplyFault). before ++ (if is_conformable_result from x
     then search_hits_of_key (search_hit_row_of_key (table_of_deck seen)) (deck_key_at_place seen.lines place) else []))
-    (sym (is-answer (unit_worth (table_of_deck deck) k) a b n l found memory h))
+    (sym (is-answer (value_of_unit (table_of_deck deck) k) a b n l found memory h))
     ∙ ap (λ (d : DeckContents). before
     ++ if-conforming from (table_of_deck deck) k
     (search_hits_of_key (search_hit_row_of_key (table_of_deck d)) (deck_key_at_place d.lines place))) is

@@ -7,7 +7,7 @@ use Rattle.tree_eval.specs.Steps.{ValueOrFault}
 use Rattle.table_names.specs.declared.fault.NameFault.{NameFault}
 use Rattle.live_table.specs.declared.fault.QueryFault.{QueryFault}
 use Rattle.live_table.specs.declared.fault.QueryFault.TheVariants as query
-use Rattle.live_table.specs.Answers.{live_answer_of_worth, live_answer_value}
+use Rattle.live_table.specs.Answers.{live_answer_of_value, live_answer_value}
 use Rattle.live_table.specs.Calls.{AreLiveQueries}
 use Rattle.live_table.specs.TableView.{LiveView}
 use Rattle.live_table.specs.States.{LiveEvent}
@@ -34,19 +34,20 @@ conformable_value_is_inquiry e answer (Err x) a b n m deck made = query_inquired
     (Err query.OutOfMemory) (inl refl) made
 
 -- no query answers that memory ran out if it did not
-conformable_query_has_memory : (name : Option NameFault) (worth : ValueOrFault)
-    → live_answer_of_worth name worth ≡ Err query.OutOfMemory → ⊥
-conformable_query_has_memory (Some fault) worth e = cc
+conformable_query_has_memory : (name : Option NameFault) (value_or_fault : ValueOrFault)
+    → live_answer_of_value name value_or_fault ≡ Err query.OutOfMemory → ⊥
+conformable_query_has_memory (Some fault) value_or_fault e = cc
 conformable_query_has_memory None (Ok x) e = cc
 conformable_query_has_memory None (Err fault) e = cc
 
-pub conformable_value_has_memory : (name : Option NameFault) (worth : ValueOrFault)
+pub conformable_value_has_memory : (name : Option NameFault) (value_or_fault : ValueOrFault)
     (found : Result (Option Amount) AllocError)
     (q : Result (Unit {0}) AllocError) → OnOk q (IfErr found (λ _. ⊥))
-    → OnOk q (answer_of (live_answer_of_worth name worth) found ≡ Err query.OutOfMemory → ⊥)
-conformable_value_has_memory name worth (Ok value) (Ok u) memory = conformable_query_has_memory name worth
-conformable_value_has_memory name worth (Err x) (Ok u) memory = λ e. memory
-conformable_value_has_memory name worth found (Err x) memory = memory
+    → OnOk q (answer_of (live_answer_of_value name value_or_fault) found ≡ Err query.OutOfMemory → ⊥)
+conformable_value_has_memory name value_or_fault (Ok value) (Ok u) memory =
+    conformable_query_has_memory name value_or_fault
+conformable_value_has_memory name value_or_fault (Err x) (Ok u) memory = λ e. memory
+conformable_value_has_memory name value_or_fault found (Err x) memory = memory
 
 -- the value conforms exactly if the answer does
 conformable_value_by_answer : (from : Amount) (answer : Result Amount QueryFault)

@@ -22,7 +22,7 @@ use Rattle.live_table.specs.States.{LiveEvent, AsksWords}
 use Rattle.reply.specs.declared.fault.ReplyFault.{ReplyFault}
 use Rattle.reply.specs.declared.fault.ReplyFault.TheVariants.{Name, List as ListUnit}
 use Rattle.reply.specs.Faults.{fault_text}
-use Rattle.reply.specs.Inquiries.{◌>>=◌, Inquiry, inquiry_without_queries, worths}
+use Rattle.reply.specs.Inquiries.{◌>>=◌, Inquiry, inquiry_without_queries, values_of_trees}
 use Rattle.survey.specs.declared.check_result.Finding.{Finding}
 use Rattle.survey.specs.declared.check_result.Finding.TheVariants.{Sound, NonConforming, NotPositive}
 use Rattle.survey.specs.PrefixFaults.{checked_prefix_fault}
@@ -104,7 +104,7 @@ module _ (table : EntryTable) where
   checked_by kind.List k values = list_finding values
 
   abbrev pub key_finding : Key → Inquiry Finding
-  key_finding k = checked_by k.kind k (worths table (checked_value_expressions k k.kind (entry_at table k)))
+  key_finding k = checked_by k.kind k (values_of_trees table (checked_value_expressions k k.kind (entry_at table k)))
 
 -- a line that reports a text about a key
 abbrev pub check_report_line : Key → (text : List ℕ) → List ℕ

@@ -24,12 +24,13 @@ is_conformable_value from None = false
 
 module _ (table : EntryTable) where
   -- a unit is queried by its word
-  abbrev pub unit_worth : Key → Inquiry Amount
-  unit_worth k = tree_value table (Word k.name)
+  abbrev pub value_of_unit : Key → Inquiry Amount
+  value_of_unit k = tree_value table (Word k.name)
 
   -- the row of a unit, if its value conforms
   abbrev pub conforming_row : (from : Amount) → Key → List ℕ
-  conforming_row from k = if is_conformable_result from (unit_worth k).answer then search_hit_row_of_key table k else []
+  conforming_row from k = if is_conformable_result from (value_of_unit k).answer then search_hit_row_of_key table k else
+      []
 
   -- the rows of the units among some keys
   abbrev pub conformable_among : (from : Amount) → List Key → List ℕ
@@ -37,7 +38,7 @@ module _ (table : EntryTable) where
       search_hit_rows_or_none (flat_map (conforming_row from) (deck_keys_of_kind kind.Unit keys))
 
   abbrev pub unit_queries : List Key → List LiveEvent
-  unit_queries keys = flat_map (λ k. (unit_worth k).events) (deck_keys_of_kind kind.Unit keys)
+  unit_queries keys = flat_map (λ k. (value_of_unit k).events) (deck_keys_of_kind kind.Unit keys)
 
   -- the rows of all units, and the query of each
   abbrev pub conformable_report : (from : Amount) → List ℕ

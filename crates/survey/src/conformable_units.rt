@@ -95,7 +95,7 @@ impl UnitSearch<'_> {
             ++ search_hits_of_key (spec.conforming_row (tables.table_of_deck table.old.deck) self.now.from.now)
             (conformable_unit_at_place table.old.deck place)) }
         ensures queries { AreLiveQueries
-            (search_hits_of_key (λ k. (spec.unit_worth (tables.table_of_deck table.old.deck) k).events)
+            (search_hits_of_key (λ k. (spec.value_of_unit (tables.table_of_deck table.old.deck) k).events)
             (conformable_unit_at_place table.old.deck place)) result table.old table.new steps.old steps.new }
         ensures deck { table.new.deck ≡ table.old.deck }
     {

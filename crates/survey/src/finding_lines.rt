@@ -30,7 +30,7 @@ pub(crate) fn put_finding(
 {
     match found {
         Ok(Finding::Sound) => Ok(()),
-        Ok(Finding::NonConforming) => put_told(text, key, b"conformability error"),
+        Ok(Finding::NonConforming) => put_report(text, key, b"conformability error"),
         Ok(Finding::NotPositive(place)) => {
             put_fault(alloc, text, options, key, &ReplyFault::List(place))
         }
@@ -53,21 +53,21 @@ fn put_fault(
     fault: &ReplyFault,
 ) -> Result<(), AllocError>
     requires printable { AreReplyOptionsPrintable options.now }
-    requires told { faults.is_reply_fault_reportable fault.now ≡ true }
+    requires reportable { faults.is_reply_fault_reportable fault.now ≡ true }
     ensures { OnOk result (text.new.items
         ≡ text.old.items ++ spec.check_report_line key.now (faults.fault_text (reply_style options.now) fault.now)) }
 {
     let fault = fault_text(alloc, fault, options)?;
-    put_told(text, key, fault.as_bytes())
+    put_report(text, key, fault.as_bytes())
 }
 
-// Appends a line that reports `told` about a key.
-fn put_told(text: &mut Vec<u8>, key: &Key, told: &[u8]) -> Result<(), AllocError>
-    ensures { OnOk result (text.new.items ≡ text.old.items ++ spec.check_report_line key.now told.now) }
+// Appends a line with a report on a key.
+fn put_report(text: &mut Vec<u8>, key: &Key, report: &[u8]) -> Result<(), AllocError>
+    ensures { OnOk result (text.new.items ≡ text.old.items ++ spec.check_report_line key.now report.now) }
 {
     put_key(text, key.kind, key.name.as_bytes())?;
     text.extend_from_slice(b": ".as_slice())?;
-    text.extend_from_slice(told)?;
+    text.extend_from_slice(report)?;
     text.extend_from_slice(b"\n".as_slice())?;
     Ok(())
 }

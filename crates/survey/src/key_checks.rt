@@ -182,7 +182,7 @@ fn unit_checked<L: Ledger>(
     steps: &mut Steps<L>,
 ) -> Result<Finding, QueryFault>
     ensures inquired { call.IsInquiryAnswered call.inquiry_identity (spec.sound_finding
-        (inquiries.worths (tables.table_of_deck table.old.deck) (call.inquiry_syntaxes trees.now)))
+        (inquiries.values_of_trees (tables.table_of_deck table.old.deck) (call.inquiry_syntaxes trees.now)))
         (call.inquiry_result result) table.old table.new steps.old steps.new }
     ensures deck { table.new.deck ≡ table.old.deck }
 {
@@ -200,7 +200,7 @@ fn prefix_checked<L: Ledger>(
 ) -> Result<Finding, QueryFault>
     ensures inquired { call.IsInquiryAnswered call.inquiry_identity
         (spec.checked_by (tables.table_of_deck table.old.deck) kinds.Prefix key.now
-        (inquiries.worths (tables.table_of_deck table.old.deck) (call.inquiry_syntaxes trees.now)))
+        (inquiries.values_of_trees (tables.table_of_deck table.old.deck) (call.inquiry_syntaxes trees.now)))
         (call.inquiry_result result) table.old table.new steps.old steps.new }
     ensures deck { table.new.deck ≡ table.old.deck }
 {
@@ -222,7 +222,7 @@ fn function_checked<L: Ledger>(
     requires { IsRightLiveView table.old }
     ensures inquired { call.IsInquiryAnswered call.inquiry_identity
         (spec.checked_by (tables.table_of_deck table.old.deck) kinds.Func key.now
-        (inquiries.worths (tables.table_of_deck table.old.deck) (call.inquiry_syntaxes trees.now)))
+        (inquiries.values_of_trees (tables.table_of_deck table.old.deck) (call.inquiry_syntaxes trees.now)))
         (call.inquiry_result result) table.old table.new steps.old steps.new }
     ensures deck { table.new.deck ≡ table.old.deck }
 {
@@ -239,7 +239,7 @@ fn list_checked<L: Ledger>(
     steps: &mut Steps<L>,
 ) -> Result<Finding, QueryFault>
     ensures inquired { call.IsInquiryAnswered call.inquiry_identity (spec.list_finding
-        (inquiries.worths (tables.table_of_deck table.old.deck) (call.inquiry_syntaxes trees.now)))
+        (inquiries.values_of_trees (tables.table_of_deck table.old.deck) (call.inquiry_syntaxes trees.now)))
         (call.inquiry_result result) table.old table.new steps.old steps.new }
     ensures deck { table.new.deck ≡ table.old.deck }
 {

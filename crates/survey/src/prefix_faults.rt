@@ -16,7 +16,7 @@ pub(crate) fn prefix_fault(
     prefix: &Key,
     fault: NameFault,
 ) -> Result<NameFault, AllocError>
-    ensures { IfOk result (λ told. told ≡ spec.checked_prefix_fault prefix.now fault) }
+    ensures { IfOk result (λ checked_fault. checked_fault ≡ spec.checked_prefix_fault prefix.now fault) }
 {
     match fault {
         NameFault::Unknown(word, None) => Ok(NameFault::Unknown(

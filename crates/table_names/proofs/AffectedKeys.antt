@@ -39,14 +39,14 @@ module _ (table : EntryTable) (keys : List Key) where
   users n m r (inr (inl h)) = inr (inr (m, r, h))
   users n m r (inr (inr (x, q, h))) = inr (inr (x, table_name_reach_is_transitive r q, h))
 
-  looked_told : (n : Key) → HasTableNameLooked table keys n → has_table_name_looked table keys n ≡ true
-  looked_told n (k, c, (u, i, l)) =
+  looked_sets_flag : (n : Key) → HasTableNameLooked table keys n → has_table_name_looked table keys n ≡ true
+  looked_sets_flag n (k, c, (u, i, l)) =
       any_member (is_entry_key_among keys) (key_looked_keys table n) k
       (flat_member (table_word_looked_keys table) (table_words_of_key table n) u k i l)
       (member_table_key_is_among keys k c)
 
-  told_looked : (n : Key) → has_table_name_looked table keys n ≡ true → HasTableNameLooked table keys n
-  told_looked n e =
+  flag_means_looked : (n : Key) → has_table_name_looked table keys n ≡ true → HasTableNameLooked table keys n
+  flag_means_looked n e =
       let r : (k : Key) × Contains (key_looked_keys table n) k × (is_entry_key_among keys k ≡ true) =
       any_cases (is_entry_key_among keys) (key_looked_keys table n) e in (
         r.0,
@@ -59,36 +59,36 @@ module _ (table : EntryTable) (keys : List Key) where
     listed : (m : Key) → Contains (key_reach table n) m ↔ TableNameReaches table n m
     listed = table_name_reach_law.reached_words table (table_words_of_key table n) (key_words_closed table n closed)
 
-    told : is_affected_table_name table keys n ≡ true → IsAffectedTableName table keys n
-    told e = elim (or_cases (is_entry_key_among keys n)
+    flag_means_affected : is_affected_table_name table keys n ≡ true → IsAffectedTableName table keys n
+    flag_means_affected e = elim (or_cases (is_entry_key_among keys n)
         (list_any (has_table_name_looked table keys) (n ∷ key_reach table n)) e) [
           | inl q ↦ inl (table_key_among_is_member keys n q)
           | inr q ↦
               let r : (m : Key) × Contains (n ∷ key_reach table n) m × (has_table_name_looked table keys m ≡ true) =
               any_cases (has_table_name_looked table keys) (n ∷ key_reach table n) q in
               elim (member_cases r.0 n (key_reach table n) r.1) [
-                | inl s ↦ inr (inl (told_looked n
+                | inl s ↦ inr (inl (flag_means_looked n
                     (subst (λ (x : Key). has_table_name_looked table keys x ≡ true) s r.2)))
-                | inr j ↦ inr (inr (r.0, (listed r.0).0 j, told_looked r.0 r.2))
+                | inr j ↦ inr (inr (r.0, (listed r.0).0 j, flag_means_looked r.0 r.2))
               ]
         ]
 
-    tells : IsAffectedTableName table keys n → is_affected_table_name table keys n ≡ true
-    tells (inl c) = or_left (is_entry_key_among keys n) _ (member_table_key_is_among keys n c)
-    tells (inr (inl h)) =
+    affected_sets_flag : IsAffectedTableName table keys n → is_affected_table_name table keys n ≡ true
+    affected_sets_flag (inl c) = or_left (is_entry_key_among keys n) _ (member_table_key_is_among keys n c)
+    affected_sets_flag (inr (inl h)) =
         or_right (is_entry_key_among keys n) _
         (any_member (has_table_name_looked table keys) (n ∷ key_reach table n) n
         (member_first n n (key_reach table n) refl)
-        (looked_told n h))
-    tells (inr (inr (m, r, h))) =
+        (looked_sets_flag n h))
+    affected_sets_flag (inr (inr (m, r, h))) =
         or_right (is_entry_key_among keys n) _
         (any_member (has_table_name_looked table keys) (n ∷ key_reach table n) m
-        (member_later m n (key_reach table n) ((listed m).1 r)) (looked_told m h))
+        (member_later m n (key_reach table n) ((listed m).1 r)) (looked_sets_flag m h))
 
 -- the law of affected keys
 pub affected_table_name_law : AffectedTableNameLaw
 affected_table_name_law = record {
-  affected_exactly = λ table keys n e. (told table keys n e, tells table keys n e);
+  affected_exactly = λ table keys n e. (flag_means_affected table keys n e, affected_sets_flag table keys n e);
   users =
       users;
 }

@@ -25,16 +25,16 @@ abbrev Says : Kind → Result What EntryFault → Type 0
 Says k r = (w : What) → r ≡ Ok w → table_name_may_have k w ≡ true
 
 module _ (k : Kind) where
-  told : (w : What) → table_name_may_have k w ≡ true → Says k (Ok w)
-  told w h x e = let q : w ≡ x = cc in subst (λ z. table_name_may_have k z ≡ true) q h
+  definition_has_kind : (w : What) → table_name_may_have k w ≡ true → Says k (Ok w)
+  definition_has_kind w h x e = let q : w ≡ x = cc in subst (λ z. table_name_may_have k z ≡ true) q h
 
-  not_told : (fault : EntryFault) → Says k (Err fault)
-  not_told fault x e = cc
+  fault_has_no_kind : (fault : EntryFault) → Says k (Err fault)
+  fault_has_no_kind fault x e = cc
 
   then_says : {A : Type 0} (r : Result A EntryFault) (f : A → Result What EntryFault) → ((x : A) → Says k (f x))
       → Says k (r >>= f)
   then_says (Ok x) f h = h x
-  then_says (Err fault) f h = not_told fault
+  then_says (Err fault) f h = fault_has_no_kind fault
 
   either_says : (b : Bool) (r s : Result What EntryFault) → Says k r → Says k s → Says k (cond b r s)
   either_says true r s h g = h
@@ -43,19 +43,20 @@ module _ (k : Kind) where
   body_says : ((e : Syntax) → table_name_may_have k (what.Body e) ≡ true) → (text : List ℕ) → Says k (read.body_in text)
   body_says h text =
       then_says (read.nonempty_entry_text text) _
-      (λ body. then_says (entry_tree None body) _ (λ tree. told (what.Body tree) (h tree)))
+      (λ body. then_says (entry_tree None body) _ (λ tree. definition_has_kind (what.Body tree) (h tree)))
 
 -- the text of a unit gives a definition that a unit may have
 unit_text_fits_table_name : (text : List ℕ) → Says kind.Unit (read.unit_body_in text)
 unit_text_fits_table_name text =
-    either_says kind.Unit _ _ _ (told kind.Unit what.Primitive refl)
-    (either_says kind.Unit _ _ _ (told kind.Unit what.Dimensionless refl) (body_says kind.Unit (λ e. refl) text))
+    either_says kind.Unit _ _ _ (definition_has_kind kind.Unit what.Primitive refl)
+    (either_says kind.Unit _ _ _ (definition_has_kind kind.Unit what.Dimensionless refl)
+    (body_says kind.Unit (λ e. refl) text))
 
 -- the text of an alias gives a definition that a function may have
 alias_text_fits_table_name : (text : List ℕ) → Says kind.Func (read.alias_in text)
 alias_text_fits_table_name text =
     then_says kind.Func (read.nonempty_entry_text (read.without_call (trimmed_of_blanks text))) _ (λ target.
-    then_says kind.Func (name_or_entry_fault target) _ (λ name. told kind.Func (what.Alias name) refl))
+    then_says kind.Func (name_or_entry_fault target) _ (λ name. definition_has_kind kind.Func (what.Alias name) refl))
 
 -- the text of a function after its parameter gives a definition that a function may have
 call_text_fits_table_name : (name inside behind : List ℕ)
@@ -67,7 +68,7 @@ call_text_fits_table_name name (b ∷ bytes) behind =
     then_says kind.Func (read.option_units_in form.options.units) _ (λ units.
     then_says kind.Func (entry_tree (Some parameter) form.forward) _ (λ forward.
     then_says kind.Func (read.inverse_body_in name form.inverse) _ (λ inverse.
-    told kind.Func (read.function_entry_definition form units forward inverse) refl)))))
+    definition_has_kind kind.Func (read.function_entry_definition form units forward inverse) refl)))))
 
 -- the text of a table after its unit gives a definition that a function may have
 table_text_fits_table_name : (text behind : List ℕ) → Says kind.Func (read.table_entry_in text behind)
@@ -75,11 +76,11 @@ table_text_fits_table_name text behind =
     then_says kind.Func (read.nonempty_entry_text text) _
     (λ unit. then_says kind.Func (read.point_pairs_in behind) _ (λ points.
     then_says kind.Func (entry_tree None unit) _ (λ tree.
-    told kind.Func (what.Table (record { unit = tree; points = points })) refl)))
+    definition_has_kind kind.Func (what.Table (record { unit = tree; points = points })) refl)))
 
 -- the text of a function, alias or table gives a definition that a function may have
 func_text_fits_table_name : (name text : List ℕ) → Says kind.Func (read.function_or_table_entry_in name text)
-func_text_fits_table_name name [] = not_told kind.Func _
+func_text_fits_table_name name [] = fault_has_no_kind kind.Func _
 func_text_fits_table_name name (b ∷ text) =
     either_says kind.Func _ _ _
     (then_says kind.Func (or_entry_fault BadForm (cut_at 41 text)) _
@@ -92,7 +93,7 @@ list_text_fits_table_name : (text : List ℕ) → Says kind.List (read.list_entr
 list_text_fits_table_name text =
     then_says kind.List (read.nonempty_entry_text text) _ (λ parts.
     then_says kind.List (read.entry_trees (slice_split read.is_entry_semicolon parts)) _
-    (λ trees. told kind.List (what.ListOf trees) refl))
+    (λ trees. definition_has_kind kind.List (what.ListOf trees) refl))
 
 -- the text for a key of each kind gives a definition that the key may have
 key_text_fits_table_name : (k : Kind) (name text : List ℕ) → Says k (entry_definition_in k name text)

@@ -130,34 +130,34 @@ module _ (table : EntryTable) where
             elim (member_cases m k [] i) [ inl e ↦ member_first m k ks e | inr j ↦ absurd (no_member m j) ]
 
   -- ---- each computed fault follows from the rules
-  abbrev Told : List Key → List WordUse → Option NameFault → Type 0
-  Told path words None = AreClean table path words
-  Told path words (Some f) = Meets table path words f
+  abbrev PathReport : List Key → List WordUse → Option NameFault → Type 0
+  PathReport path words None = AreClean table path words
+  PathReport path words (Some f) = Meets table path words f
 
-  abbrev ToldKeys : List Key → List Key → Option NameFault → Type 0
-  ToldKeys path ns None = AreCleanKeys table path ns
-  ToldKeys path ns (Some f) = MeetKeys table path ns f
+  abbrev KeysReport : List Key → List Key → Option NameFault → Type 0
+  KeysReport path ns None = AreCleanKeys table path ns
+  KeysReport path ns (Some f) = MeetKeys table path ns f
 
   -- the faults in the entries of further targets follow from the rules
   abbrev Goes : DeeperNameFault → List Key → Type 0
   Goes F path = (n : Key) → is_entry_key_among path n ≡ false → is_entry_present table n ≡ true
-      → Told (path ++ n ∷ []) (table_words_of_key table n) (F (path ++ n ∷ []) n)
+      → PathReport (path ++ n ∷ []) (table_words_of_key table n) (F (path ++ n ∷ []) n)
 
   key_joined : (path ns : List Key) (n : Key) (o q : Option NameFault) → is_entry_key_among path n ≡ false
-      → Told (path ++ n ∷ []) (table_words_of_key table n) o → ToldKeys path ns q
-      → ToldKeys path (n ∷ ns) (option_or o q)
+      → PathReport (path ++ n ∷ []) (table_words_of_key table n) o → KeysReport path ns q
+      → KeysReport path (n ∷ ns) (option_or o q)
   key_joined path ns n None None off c d = NextKey off c d
   key_joined path ns n None (Some f) off c m = InOtherKeys (NextKey off c NoKey) m
   key_joined path ns n (Some f) q off m d = InEntry off m
 
-  told_keys : (F : DeeperNameFault) (path ns : List Key) → Goes F path → ArePresent ns
-      → ToldKeys path ns (first_some (target_fault table F path) ns)
-  told_keys F path [] deeper there = NoKey
-  told_keys F path (n ∷ ns) deeper there =
-      by (told_keys F path ns deeper (λ m i. there m (member_later m n ns i))) (is_entry_key_among path n) refl
+  keys_report : (F : DeeperNameFault) (path ns : List Key) → Goes F path → ArePresent ns
+      → KeysReport path ns (first_some (target_fault table F path) ns)
+  keys_report F path [] deeper there = NoKey
+  keys_report F path (n ∷ ns) deeper there =
+      by (keys_report F path ns deeper (λ m i. there m (member_later m n ns i))) (is_entry_key_among path n) refl
     where
-      by : ToldKeys path ns (first_some (target_fault table F path) ns) → (b : Bool) → is_entry_key_among path n ≡ b
-          → ToldKeys path (n ∷ ns)
+      by : KeysReport path ns (first_some (target_fault table F path) ns) → (b : Bool) → is_entry_key_among path n ≡ b
+          → KeysReport path (n ∷ ns)
           (option_or (cond b (Some (Cycle (name_fault_cycle_chain n path))) (F (path ++ n ∷ []) n))
           (first_some (target_fault table F path) ns))
       by rest true q = OnPath q refl
@@ -166,59 +166,60 @@ module _ (table : EntryTable) where
           (deeper n q (there n (member_first n n ns refl))) rest
 
   word_joined : (path ns : List Key) (u : WordUse) (us : List WordUse) (o q : Option NameFault)
-      → is_refused u.text ≡ false → ns ≢ [] → table_word_targets table u ≡ ns → ToldKeys path ns o → Told path us q
-      → Told path (u ∷ us) (option_or o q)
+      → is_refused u.text ≡ false → ns ≢ [] → table_word_targets table u ≡ ns → KeysReport path ns o
+      → PathReport path us q
+      → PathReport path (u ∷ us) (option_or o q)
   word_joined path ns u us None None r some e c d =
       NextWord r (subst (λ x. x ≢ []) (sym e) some) (subst (AreCleanKeys table path) (sym e) c) d
   word_joined path ns u us None (Some f) r some e c m =
       InOtherWords (NextWord r (subst (λ x. x ≢ []) (sym e) some) (subst (AreCleanKeys table path) (sym e) c) NoWord) m
   word_joined path ns u us (Some f) q r some e m d = AtTargets r (subst (λ x. MeetKeys table path x f) (sym e) m)
 
-  told_words : (F : DeeperNameFault) (path : List Key) (words : List WordUse) → Goes F path
-      → Told path words (first_some (word_fault table F path) words)
-  told_words F path [] deeper = NoWord
-  told_words F path (u ∷ us) deeper = by (told_words F path us deeper) (is_refused u.text) refl
+  words_report : (F : DeeperNameFault) (path : List Key) (words : List WordUse) → Goes F path
+      → PathReport path words (first_some (word_fault table F path) words)
+  words_report F path [] deeper = NoWord
+  words_report F path (u ∷ us) deeper = by (words_report F path us deeper) (is_refused u.text) refl
     where
       behind : Option NameFault
       behind = first_some (word_fault table F path) us
 
-      at : Told path us behind → (ns : List Key) → is_refused u.text ≡ false → table_word_targets table u ≡ ns
-          → Told path (u ∷ us) (option_or (targets_fault table F path u ns) behind)
+      at : PathReport path us behind → (ns : List Key) → is_refused u.text ≡ false → table_word_targets table u ≡ ns
+          → PathReport path (u ∷ us) (option_or (targets_fault table F path u ns) behind)
       at rest [] r e = AtUnknownWord r e refl
       at rest (n ∷ ns) r e =
           word_joined path (n ∷ ns) u us (first_some (target_fault table F path) (n ∷ ns)) behind r (λ z. cc) e
-          (told_keys F path (n ∷ ns) deeper (subst ArePresent e (target_present table u))) rest
+          (keys_report F path (n ∷ ns) deeper (subst ArePresent e (target_present table u))) rest
 
-      by : Told path us behind → (b : Bool) → is_refused u.text ≡ b
-          → Told path (u ∷ us) (option_or (cond b (Some (Refused u.text (last_or None path)))
+      by : PathReport path us behind → (b : Bool) → is_refused u.text ≡ b
+          → PathReport path (u ∷ us) (option_or (cond b (Some (Refused u.text (last_or None path)))
           (targets_fault table F path u (table_word_targets table u))) behind)
       by rest true r = AtRefusedName r refl
       by rest false r = at rest (table_word_targets table u) r refl
 
-  told_key : (k : ℕ) (path : List Key) (n : Key) → IsNameFaultPath table path → length path + k ≡ length table + 1
-      → Told path (table_words_of_key table n) (key_fault_within table k path n)
-  told_key zero path n p room = absurd (let l : length path ≤ length table = path_fits_table table path p in
+  key_report : (k : ℕ) (path : List Key) (n : Key) → IsNameFaultPath table path → length path + k ≡ length table + 1
+      → PathReport path (table_words_of_key table n) (key_fault_within table k path n)
+  key_report zero path n p room = absurd (let l : length path ≤ length table = path_fits_table table path p in
       omega arith)
-  told_key (suc k) path n p room =
-      told_words (key_fault_within table k) path (table_words_of_key table n) (λ m off there.
-      told_key k (path ++ m ∷ []) m (longer table path m p off there) (omega (arith, length-append path (m ∷ []))))
+  key_report (suc k) path n p room =
+      words_report (key_fault_within table k) path (table_words_of_key table n) (λ m off there.
+      key_report k (path ++ m ∷ []) m (longer table path m p off there) (omega (arith, length-append path (m ∷ []))))
 
-  told : (path : List Key) (words : List WordUse) → IsNameFaultPath table path
-      → Told path words (words_fault table path words)
-  told path words p =
+  path_report : (path : List Key) (words : List WordUse) → IsNameFaultPath table path
+      → PathReport path words (words_fault table path words)
+  path_report path words p =
       let l : length path ≤ length table = path_fits_table table path p in
-      told_words (key_fault_within table (length table - length path)) path words (λ m off there.
-      told_key (length table - length path) (path ++ m ∷ []) m (longer table path m p off there)
+      words_report (key_fault_within table (length table - length path)) path words (λ m off there.
+      key_report (length table - length path) (path ++ m ∷ []) m (longer table path m p off there)
       (omega (arith, length-append path (m ∷ []))))
 
   -- ---- the faults by the rules and the computed faults agree
   met_is : (path : List Key) (words : List WordUse) (f : NameFault) → IsNameFaultPath table path
       → words_fault table path words ≡ Some f → Meets table path words f
-  met_is path words f p e = subst (Told path words) e (told path words p)
+  met_is path words f p e = subst (PathReport path words) e (path_report path words p)
 
   clean_is : (path : List Key) (words : List WordUse) → IsNameFaultPath table path → words_fault table path words ≡ None
       → AreClean table path words
-  clean_is path words p e = subst (Told path words) e (told path words p)
+  clean_is path words p e = subst (PathReport path words) e (path_report path words p)
 
   one : (path : List Key) (words : List WordUse) (f g : NameFault) → IsNameFaultPath table path
       → Meets table path words f → Meets table path words g → f ≡ g
@@ -226,9 +227,9 @@ module _ (table : EntryTable) where
 
   no_fault : (path : List Key) (words : List WordUse) → IsNameFaultPath table path
       → ((f : NameFault) → Meets table path words f → ⊥) → AreClean table path words
-  no_fault path words p h = by (words_fault table path words) (told path words p)
+  no_fault path words p h = by (words_fault table path words) (path_report path words p)
     where
-      by : (o : Option NameFault) → Told path words o → AreClean table path words
+      by : (o : Option NameFault) → PathReport path words o → AreClean table path words
       by None c = c
       by (Some f) m = absurd (h f m)
 

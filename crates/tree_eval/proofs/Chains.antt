@@ -62,8 +62,8 @@ module _ (all : List (Step × Syntax)) {o : Step × Syntax} (is : slice_get all 
     abbrev behind : Amount → ValueOrFault
     behind v = chain_value v (links means (drop 1 all)) a
 
-    worth_first : value (chain means all) a ≡ (value (expand means o.1) a >>= behind)
-    worth_first = ap (λ y. value (chain means y) a) split_first
+    value_after_first : value (chain means all) a ≡ (value (expand means o.1) a >>= behind)
+    value_after_first = ap (λ y. value (chain means y) a) split_first
 
     -- the fault of the first member is that of the chain
     pub first_fault : (e : EvalFault)
@@ -71,7 +71,7 @@ module _ (all : List (Step × Syntax)) {o : Step × Syntax} (is : slice_get all 
         → GivesValueOrFault amount_of_held_value (Err e) (value (chain means all) a)
     first_fault e h =
         first_eval_step_fault amount_of_held_value amount_of_held_value e (value (expand means o.1) a) behind
-        (value (chain means all) a) worth_first h
+        (value (chain means all) a) value_after_first h
 
     -- the loop begins with the value of the first member
     pub begins : {us : List WordUse} {place next : ℕ} {held : Amount} → IsEvalWordRun us place (words_of_operands all)
@@ -81,7 +81,7 @@ module _ (all : List (Step × Syntax)) {o : Step × Syntax} (is : slice_get all 
         let w : length (words_of_operands all) ≡ length (words_in o.1) + length (words_of_operands (drop 1 all)) =
         ap length words_first ∙ length-append (words_in o.1) (words_of_operands (drop 1 all)) in
         record {
-          goes_on = worth_first ∙ ap (λ r. r >>= behind) v;
+          goes_on = value_after_first ∙ ap (λ r. r >>= behind) v;
           places = omega (arith, n, w);
           stand = subst (λ k. IsEvalWordRun us k (words_of_operands (drop 1 all))) (sym n)
               (right_eval_words_at_run us place (words_in o.1) (words_of_operands (drop 1 all))
@@ -119,15 +119,15 @@ module _ {means : WordUse → EvalMeaning} {us : List WordUse} {place : ℕ} {al
     abbrev here : ValueOrFault
     here = value_with_operand o.0 held (value (expand means o.1) a)
 
-    worth_here : value (chain means all) a ≡ (here >>= others)
-    worth_here = running.goes_on ∙ ap (λ y. chain_value held (links means y) a) split
+    value_from_here : value (chain means all) a ≡ (here >>= others)
+    value_from_here = running.goes_on ∙ ap (λ y. chain_value held (links means y) a) split
         ∙ eval_steps_in_two (value (expand means o.1) a) (operand_step_value o.0 held) others
 
     -- the fault of the member is that of the chain
     pub member_fault : (e : EvalFault) → GivesValueOrFault amount_of_held_value (Err e) here
         → GivesValueOrFault amount_of_held_value (Err e) (value (chain means all) a)
     member_fault e h = first_eval_step_fault amount_of_held_value amount_of_held_value e here others
-        (value (chain means all) a) worth_here h
+        (value (chain means all) a) value_from_here h
 
     -- the loop continues with the result of the step
     pub run_goes_on : {x : Amount} {after : ℕ} → here ≡ Ok x → after ≡ next + length (words_in o.1)
@@ -137,7 +137,7 @@ module _ {means : WordUse → EvalMeaning} {us : List WordUse} {place : ℕ} {al
         (words_of_operands (drop (i + 1) all)) =
         ap length words_here ∙ length-append (words_in o.1) (words_of_operands (drop (i + 1) all)) in
         record {
-          goes_on = worth_here ∙ ap (λ r. r >>= others) j;
+          goes_on = value_from_here ∙ ap (λ r. r >>= others) j;
           places = omega (arith, n, m, running.places);
           stand = subst (λ k. IsEvalWordRun us k (words_of_operands (drop (i + 1) all))) (sym n)
               (right_eval_words_at_run us next (words_in o.1) (words_of_operands (drop (i + 1) all))
@@ -151,8 +151,8 @@ module _ {means : WordUse → EvalMeaning} {us : List WordUse} {place : ℕ} {al
     none_left = drop_of_length-le all last
 
     -- the held quantity is the value of the chain
-    pub end_worth : value (chain means all) a ≡ Ok held
-    end_worth = running.goes_on ∙ ap (λ y. chain_value held (links means y) a) none_left
+    pub value_at_end : value (chain means all) a ≡ Ok held
+    value_at_end = running.goes_on ∙ ap (λ y. chain_value held (links means y) a) none_left
 
     -- the place is past the words of the chain
     pub end_place : next ≡ place + length (words_of_operands all)

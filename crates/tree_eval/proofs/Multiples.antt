@@ -11,7 +11,7 @@ use Rattle.quantity.specs.Amount.{Amount}
 use Rattle.units_io.specs.Outcomes.{◌>>=◌}
 use Rattle.tree_eval.specs.declared.multiple.Factor.{Factor}
 use Rattle.tree_eval.specs.declared.step.Step.TheVariants.{Multiply}
-use Rattle.tree_eval.specs.declared.meaning.Meaning.{Meaning as Told}
+use Rattle.tree_eval.specs.declared.meaning.Meaning.{Meaning as ReportedMeaning}
 use Rattle.tree_eval.specs.declared.fault.EvalFault.{EvalFault}
 use Rattle.tree_eval.specs.Answers.{GivesValueOrFault}
 use Rattle.tree_eval.specs.Environment.{IsEvalWordRun, IsReportedEvalMeaning}
@@ -82,15 +82,16 @@ module _ (es : List Syntax) {r : Option Factor} {f : Factor} (some : r ≡ Some 
     multiple_within = first_eval_word_within us p (plain_eval_word is.1) [] word_stands
 
     -- the meaning that is reported for the place
-    module _ (means : WordUse → EvalMeaning) (has : ℕ → Bool) (callee : ℕ → Callable) (t : Told)
-        (told : (u : WordUse) → slice_get us p ≡ Some u → IsReportedEvalMeaning has callee (means u) t) where
+    module _ (means : WordUse → EvalMeaning) (has : ℕ → Bool) (callee : ℕ → Callable) (t : ReportedMeaning)
+        (reports : (u : WordUse) → slice_get us p ≡ Some u → IsReportedEvalMeaning has callee (means u) t) where
       -- the meaning that is reported for the place is that of the word
-      word_told : IsReportedEvalMeaning has callee (means (plain_eval_word is.1)) t
-      word_told = told (plain_eval_word is.1) (first_eval_word_at_run us p (plain_eval_word is.1) [] word_stands)
+      word_is_reported : IsReportedEvalMeaning has callee (means (plain_eval_word is.1)) t
+      word_is_reported = reports (plain_eval_word is.1)
+          (first_eval_word_at_run us p (plain_eval_word is.1) [] word_stands)
 
       -- the reported meaning is usable
       pub multiple_usable : IsUsableEvalMeaning has t
-      multiple_usable = reported_eval_meaning_is_usable has callee (means (plain_eval_word is.1)) t word_told
+      multiple_usable = reported_eval_meaning_is_usable has callee (means (plain_eval_word is.1)) t word_is_reported
 
       -- a result for the number and the word is a result for the members
       pub multiple_gives : (a : Option Amount) {A : Type 0} (seen : A → Amount) (r : Result A EvalFault)
@@ -99,7 +100,7 @@ module _ (es : List Syntax) {r : Option Factor} {f : Factor} (some : r ≡ Some 
       multiple_gives a seen r =
           subst (GivesValueOrFault seen r) (sym (product_multiple_value means es (factor_number_value f) a is
           ∙ ap (word_multiple_value (factor_number_value f))
-          (reported_plain_word_value has callee (means (plain_eval_word is.1)) t a word_told)))
+          (reported_plain_word_value has callee (means (plain_eval_word is.1)) t a word_is_reported)))
 
 two_operands : (es : List Syntax) (e f : Syntax) → length es ≡ 2 → slice_get es 0 ≡ Some e → slice_get es 1 ≡ Some f
     → es ≡ e ∷ f ∷ []

@@ -7,8 +7,8 @@ use Rattle.expr_tree.specs.declared.word_list.WordUse.{WordUse}
 use Rattle.tree_eval.specs.declared.holder.Holder.{Holder}
 use Rattle.tree_eval.specs.declared.holder.Holder.TheVariants.{Of}
 use Rattle.tree_eval.specs.declared.holder.Part.TheVariants as part
-use Rattle.tree_eval.specs.declared.meaning.Meaning.{Meaning as Told}
-use Rattle.tree_eval.specs.declared.meaning.Meaning.TheVariants as told
+use Rattle.tree_eval.specs.declared.meaning.Meaning.{Meaning as ReportedMeaning}
+use Rattle.tree_eval.specs.declared.meaning.Meaning.TheVariants as reports
 use Rattle.tree_eval.specs.Entries.{eval_part_words, evaluated_alias, evaluated_meaning}
 use Rattle.tree_eval.specs.Environment.{IsEvalFunction, IsReportedEvalMeaning}
 use Rattle.tree_eval.specs.Expansions.{Callable, EvalMeaning, One, Two, Callee, eval_callable_name}
@@ -20,12 +20,13 @@ eval_words_have_first_word [] h = let z : ⊥ = omega (arith, h) in absurd z
 eval_words_have_first_word (u ∷ ws) h = (u, refl)
 
 -- the reported meaning of a word that is a function is the number of the function
-pub reported_callable_has_number : (has : ℕ → Bool) (callee : ℕ → Callable) (m : EvalMeaning) (t : Told) (f : Callable)
+pub reported_callable_has_number : (has : ℕ → Bool) (callee : ℕ → Callable) (m : EvalMeaning) (t : ReportedMeaning)
+    (f : Callable)
     → IsReportedEvalMeaning has callee m t → m ≡ Callee f
-    → ((x : ℕ) → t ≡ told.Function x → ⊥) → ⊥
-reported_callable_has_number has callee m (told.One o) f h e n = let p : One h.0 ≡ Callee f = sym h.1 ∙ e in cc
-reported_callable_has_number has callee m (told.Two p u) f h e n = let q : Two h.0 h.1 ≡ Callee f = sym h.2 ∙ e in cc
-reported_callable_has_number has callee m (told.Function id) f h e n = n id refl
+    → ((x : ℕ) → t ≡ reports.Function x → ⊥) → ⊥
+reported_callable_has_number has callee m (reports.One o) f h e n = let p : One h.0 ≡ Callee f = sym h.1 ∙ e in cc
+reported_callable_has_number has callee m (reports.Two p u) f h e n = let q : Two h.0 h.1 ≡ Callee f = sym h.2 ∙ e in cc
+reported_callable_has_number has callee m (reports.Function id) f h e n = n id refl
 
 -- the target of an alias that is a function is a function
 evaluated_alias_target : (name : List ℕ) (m : EvalMeaning) (f : Callable) → evaluated_alias name m ≡ Callee f

@@ -11,8 +11,8 @@ use Rattle.tree_eval.specs.Answers.{GivesValueOrFault}
 use Rattle.tree_eval.specs.declared.direction.Direction.{Direction}
 use Rattle.tree_eval.specs.declared.direction.Direction.TheVariants.{Forward, Inverse}
 use Rattle.tree_eval.specs.declared.fault.EvalFault.{EvalFault}
-use Rattle.tree_eval.specs.declared.meaning.Meaning.{Meaning as Told}
-use Rattle.tree_eval.specs.declared.meaning.Meaning.TheVariants as told
+use Rattle.tree_eval.specs.declared.meaning.Meaning.{Meaning as ReportedMeaning}
+use Rattle.tree_eval.specs.declared.meaning.Meaning.TheVariants as reports
 use Rattle.tree_eval.specs.Directions.{operand_expansion}
 use Rattle.tree_eval.specs.Environment.{IsEvalWordRun, IsReportedEvalMeaning}
 use Rattle.tree_eval.specs.Expansions.{Callable, EvalMeaning, Expanded}
@@ -22,30 +22,32 @@ use Rattle.tree_eval.specs.Value.{value}
 use Rattle.tree_eval.proofs.Alone.{eval_word_at_place}
 use Rattle.tree_eval.proofs.Calls.{reported_eval_meaning_is_usable}
 use Rattle.tree_eval.proofs.Places.{first_eval_word_at_run, first_eval_word_within, rest_eval_words_at_run}
-use Rattle.tree_eval.proofs.Weight.{weight, weight_callable, weight_of_use, weight_told}
+use Rattle.tree_eval.proofs.Weight.{weight, weight_callable, weight_of_use, weight_of_meaning}
 
 -- a word with its operand is heavier than its reported meaning with the operand
-operand_use_weight : (direction : Direction) (has : ℕ → Bool) (callee : ℕ → Callable) (m : EvalMeaning) (t : Told)
+operand_use_weight : (direction : Direction) (has : ℕ → Bool) (callee : ℕ → Callable) (m : EvalMeaning)
+    (t : ReportedMeaning)
     (y : Expanded)
-    → IsReportedEvalMeaning has callee m t → weight_told callee t + weight y < weight (operand_expansion direction m y)
-operand_use_weight Forward has callee m (told.One o) y h =
+    → IsReportedEvalMeaning has callee m t → weight_of_meaning callee t + weight y < weight
+    (operand_expansion direction m y)
+operand_use_weight Forward has callee m (reports.One o) y h =
     let w : weight (operand_expansion Forward m y) ≡ suc (suc (weight h.0) + (weight y + 0)) =
     ap (λ k. weight (operand_expansion Forward k y)) h.1 in
     omega (arith, w)
-operand_use_weight Forward has callee m (told.Two p u) y h =
+operand_use_weight Forward has callee m (reports.Two p u) y h =
     let w : weight (operand_expansion Forward m y) ≡ suc (suc (weight h.0 + weight h.1) + (weight y + 0)) =
     ap (λ k. weight (operand_expansion Forward k y)) h.2 in omega (arith, w)
-operand_use_weight Forward has callee m (told.Function id) y h =
+operand_use_weight Forward has callee m (reports.Function id) y h =
     let w : weight (operand_expansion Forward m y) ≡ suc (weight_callable (callee id) + weight y) =
     ap (λ k. weight (operand_expansion Forward k y)) h.1 in omega (arith, w)
-operand_use_weight Inverse has callee m (told.One o) y h =
+operand_use_weight Inverse has callee m (reports.One o) y h =
     let w : weight (operand_expansion Inverse m y) ≡ suc (suc (weight h.0) + (weight y + 0)) =
     ap (λ k. weight (operand_expansion Inverse k y)) h.1 in
     omega (arith, w)
-operand_use_weight Inverse has callee m (told.Two p u) y h =
+operand_use_weight Inverse has callee m (reports.Two p u) y h =
     let w : weight (operand_expansion Inverse m y) ≡ suc (suc (weight h.0 + weight h.1) + (weight y + 0)) =
     ap (λ k. weight (operand_expansion Inverse k y)) h.2 in omega (arith, w)
-operand_use_weight Inverse has callee m (told.Function id) y h =
+operand_use_weight Inverse has callee m (reports.Function id) y h =
     let w : weight (operand_expansion Inverse m y) ≡ suc (weight_callable (callee id) + weight y) =
     ap (λ k. weight (operand_expansion Inverse k y)) h.1 in omega (arith, w)
 
@@ -122,7 +124,7 @@ operand_stands us p q ws here n = subst (λ k. IsEvalWordRun us k ws) (sym n) he
 
 -- the word at a place, with the meaning that is reported for it
 module _ (us : List WordUse) (p : ℕ) (within : p < length us) (means : WordUse → EvalMeaning) (has : ℕ → Bool)
-    (callee : ℕ → Callable) (t : Told)
+    (callee : ℕ → Callable) (t : ReportedMeaning)
     (report : (u : WordUse) → slice_get us p ≡ Some u → IsReportedEvalMeaning has callee (means u) t) where
   -- the reported meaning is usable
   pub use_is_usable : IsUsableEvalMeaning has t
@@ -131,15 +133,15 @@ module _ (us : List WordUse) (p : ℕ) (within : p < length us) (means : WordUse
       reported_eval_meaning_is_usable has callee (means s.0) t (report s.0 s.1)
 
   -- the number of a reported function is that of one
-  pub use_has_function : {id : ℕ} → t ≡ told.Function id → IsTrue (has id)
+  pub use_has_function : {id : ℕ} → t ≡ reports.Function id → IsTrue (has id)
   use_has_function is = subst (IsUsableEvalMeaning has) is use_is_usable
 
   module _ (direction : Direction) (y : Expanded) where
     -- the word with an operand is heavier than its reported meaning with the operand
-    use_weight : weight_told callee t + weight y < weight_of_use means direction (slice_get us p) y
+    use_weight : weight_of_meaning callee t + weight y < weight_of_use means direction (slice_get us p) y
     use_weight =
         let s = eval_word_at_place us p within in
-        subst (λ o. weight_told callee t + weight y < weight_of_use means direction o y) (sym s.1)
+        subst (λ o. weight_of_meaning callee t + weight y < weight_of_use means direction o y) (sym s.1)
         (operand_use_weight direction has callee (means s.0) t y (report s.0 s.1))
 
     -- the operand is lighter, also as a member of a chain
@@ -147,9 +149,9 @@ module _ (us : List WordUse) (p : ℕ) (within : p < length us) (means : WordUse
     operand_lighter = let w = use_weight in omega (arith, w)
 
     -- the function is lighter
-    pub function_lighter : {id : ℕ} → t ≡ told.Function id
+    pub function_lighter : {id : ℕ} → t ≡ reports.Function id
         → 8 * weight_callable (callee id) + 4 < 8 * weight_of_use means direction (slice_get us p) y + 1
     function_lighter {id} is =
         let w = use_weight in
-        let v : weight_told callee t ≡ weight_callable (callee id) = ap (weight_told callee) is in
+        let v : weight_of_meaning callee t ≡ weight_callable (callee id) = ap (weight_of_meaning callee) is in
         omega (arith, w, v)

@@ -2,8 +2,8 @@
 use Rattle.std.proofs.Common.{ℕ, suc, ◌+◌, Option, Some, None}
 use Rattle.expr_tree.specs.declared.word_list.WordUse.{WordUse}
 use Rattle.tree_eval.specs.declared.direction.Direction.{Direction}
-use Rattle.tree_eval.specs.declared.meaning.Meaning.{Meaning as Told}
-use Rattle.tree_eval.specs.declared.meaning.Meaning.TheVariants as told
+use Rattle.tree_eval.specs.declared.meaning.Meaning.{Meaning as ReportedMeaning}
+use Rattle.tree_eval.specs.declared.meaning.Meaning.TheVariants as reports
 use Rattle.tree_eval.specs.Expansions.{Expanded, Number, Bar, Argument, Primitive, Dimensionless, Named, Prefixed}
 use Rattle.tree_eval.specs.Expansions.{Uncalled, Applied, Unapplied, Root, Group, Negated, Power, Chain}
 use Rattle.tree_eval.specs.Directions.{operand_expansion}
@@ -49,6 +49,6 @@ weight_of_use means direction (Some u) y = weight (operand_expansion direction (
 weight_of_use means direction None y = 0
 
 -- the weight of the reported function, or 0 for a name
-abbrev pub weight_told : (ℕ → Callable) → Told → ℕ
-weight_told callee (told.Function id) = weight_callable (callee id)
-weight_told callee _ = 0
+abbrev pub weight_of_meaning : (ℕ → Callable) → ReportedMeaning → ℕ
+weight_of_meaning callee (reports.Function id) = weight_callable (callee id)
+weight_of_meaning callee _ = 0

@@ -5,8 +5,8 @@ use Rattle.quantity.specs.Products.{quantity_product}
 use Rattle.tree_eval.specs.declared.direction.Direction.{Direction}
 use Rattle.tree_eval.specs.declared.direction.Direction.TheVariants.{Forward, Inverse}
 use Rattle.tree_eval.specs.declared.fault.EvalFault.{EvalFault}
-use Rattle.tree_eval.specs.declared.meaning.Meaning.{Meaning as Told}
-use Rattle.tree_eval.specs.declared.meaning.Meaning.TheVariants as told
+use Rattle.tree_eval.specs.declared.meaning.Meaning.{Meaning as ReportedMeaning}
+use Rattle.tree_eval.specs.declared.meaning.Meaning.TheVariants as reports
 use Rattle.tree_eval.specs.declared.step.Step.TheVariants.{Multiply}
 use Rattle.tree_eval.specs.Answers.{GivesValueOrFault, amount_of_held_value}
 use Rattle.tree_eval.specs.Environment.{IsReportedEvalMeaning}
@@ -43,38 +43,42 @@ chained_word_value : (m : EvalMeaning) (y : Expanded) (a : Option Amount)
     (value y a)
 chained_word_value m y a = two_operand_chain_value (value (eval_meaning_expansion m) a) (value y a)
 
-module _ (has : ℕ → Bool) (callee : ℕ → Callable) (m : EvalMeaning) (t : Told) (y : Expanded) (a : Option Amount)
+module _ (has : ℕ → Bool) (callee : ℕ → Callable) (m : EvalMeaning) (t : ReportedMeaning) (y : Expanded)
+    (a : Option Amount)
     (h : IsReportedEvalMeaning has callee m t) where
-  worth_told : times (value (eval_meaning_expansion m) a) (value y a) ≡ times (reported_word_value callee t) (value y a)
-  worth_told = ap (λ r. times r (value y a)) (reported_plain_word_value has callee m t a h)
+  reported_word_gives_value : times (value (eval_meaning_expansion m) a) (value y a) ≡ times
+      (reported_word_value callee t) (value y a)
+  reported_word_gives_value = ap (λ r. times r (value y a)) (reported_plain_word_value has callee m t a h)
 
 -- a word that is not a function, before an operand, is a chain of the two
-operand_word_is_chain : (direction : Direction) (has : ℕ → Bool) (callee : ℕ → Callable) (m : EvalMeaning) (t : Told)
+operand_word_is_chain : (direction : Direction) (has : ℕ → Bool) (callee : ℕ → Callable) (m : EvalMeaning)
+    (t : ReportedMeaning)
     (y : Expanded)
-    → IsReportedEvalMeaning has callee m t → ((id : ℕ) → t ≡ told.Function id → ⊥)
+    → IsReportedEvalMeaning has callee m t → ((id : ℕ) → t ≡ reports.Function id → ⊥)
     → operand_expansion direction m y ≡ Chain (eval_meaning_expansion m) (Link Multiply y NoLink)
-operand_word_is_chain Forward has callee m (told.One o) y h n =
+operand_word_is_chain Forward has callee m (reports.One o) y h n =
     ap (λ k. operand_expansion Forward k y) h.1 ∙ ap (λ k. Chain (eval_meaning_expansion k) (Link Multiply y NoLink))
     (sym h.1)
-operand_word_is_chain Forward has callee m (told.Two p u) y h n =
+operand_word_is_chain Forward has callee m (reports.Two p u) y h n =
     ap (λ k. operand_expansion Forward k y) h.2 ∙ ap (λ k. Chain (eval_meaning_expansion k) (Link Multiply y NoLink))
     (sym h.2)
-operand_word_is_chain Inverse has callee m (told.One o) y h n =
+operand_word_is_chain Inverse has callee m (reports.One o) y h n =
     ap (λ k. operand_expansion Inverse k y) h.1 ∙ ap (λ k. Chain (eval_meaning_expansion k) (Link Multiply y NoLink))
     (sym h.1)
-operand_word_is_chain Inverse has callee m (told.Two p u) y h n =
+operand_word_is_chain Inverse has callee m (reports.Two p u) y h n =
     ap (λ k. operand_expansion Inverse k y) h.2 ∙ ap (λ k. Chain (eval_meaning_expansion k) (Link Multiply y NoLink))
     (sym h.2)
-operand_word_is_chain direction has callee m (told.Function id) y h n = absurd (n id refl)
+operand_word_is_chain direction has callee m (reports.Function id) y h n = absurd (n id refl)
 
 -- the value of a word that is not a function, before an operand, is the product of both
-operand_word_value : (direction : Direction) (has : ℕ → Bool) (callee : ℕ → Callable) (m : EvalMeaning) (t : Told)
+operand_word_value : (direction : Direction) (has : ℕ → Bool) (callee : ℕ → Callable) (m : EvalMeaning)
+    (t : ReportedMeaning)
     (y : Expanded) (a : Option Amount)
-    → IsReportedEvalMeaning has callee m t → ((id : ℕ) → t ≡ told.Function id → ⊥)
+    → IsReportedEvalMeaning has callee m t → ((id : ℕ) → t ≡ reports.Function id → ⊥)
     → value (operand_expansion direction m y) a ≡ times (reported_word_value callee t) (value y a)
 operand_word_value direction has callee m t y a h n =
     ap (λ z. value z a) (operand_word_is_chain direction has callee m t y h n)
-    ∙ (chained_word_value m y a ∙ worth_told has callee m t y a h)
+    ∙ (chained_word_value m y a ∙ reported_word_gives_value has callee m t y a h)
 
 -- the value of a function with an operand is the function at the value of the operand
 callable_operand_value : (direction : Direction) (f : Callable) (y : Expanded) (a : Option Amount)
@@ -100,8 +104,9 @@ module _ (w r s : ValueOrFault) (is : w ≡ times r s) where
     times_behind = is ∙ ap (λ x. times x s) k
 
 -- a word that is not a function, with an operand
-module _ (direction : Direction) (has : ℕ → Bool) (callee : ℕ → Callable) (m : EvalMeaning) {t : Told} (y : Expanded)
-    (a : Option Amount) (h : IsReportedEvalMeaning has callee m t) (n : (id : ℕ) → t ≡ told.Function id → ⊥) where
+module _ (direction : Direction) (has : ℕ → Bool) (callee : ℕ → Callable) (m : EvalMeaning) {t : ReportedMeaning}
+    (y : Expanded)
+    (a : Option Amount) (h : IsReportedEvalMeaning has callee m t) (n : (id : ℕ) → t ≡ reports.Function id → ⊥) where
   abbrev whole : ValueOrFault
   whole = value (operand_expansion direction m y) a
 
@@ -123,11 +128,12 @@ module _ (direction : Direction) (has : ℕ → Bool) (callee : ℕ → Callable
       eval_result_of_equal_values f r (times_behind whole (reported_word_value callee t) (value y a) is_product k) j
 
 -- a function with its operand
-module _ (direction : Direction) (has : ℕ → Bool) (callee : ℕ → Callable) (m : EvalMeaning) {t : Told} (y : Expanded)
-    (a : Option Amount) (h : IsReportedEvalMeaning has callee m t) {id : ℕ} (function : t ≡ told.Function id) where
+module _ (direction : Direction) (has : ℕ → Bool) (callee : ℕ → Callable) (m : EvalMeaning) {t : ReportedMeaning}
+    (y : Expanded)
+    (a : Option Amount) (h : IsReportedEvalMeaning has callee m t) {id : ℕ} (function : t ≡ reports.Function id) where
   taken_word : value (operand_expansion direction m y) a ≡ (value y a >>= direction_value direction (callee id))
   taken_word =
-      let k : IsReportedEvalMeaning has callee m (told.Function id) = subst (IsReportedEvalMeaning has callee m)
+      let k : IsReportedEvalMeaning has callee m (reports.Function id) = subst (IsReportedEvalMeaning has callee m)
       function h in
       ap (λ x. value (operand_expansion direction x y) a) k.1 ∙ callable_operand_value direction (callee id) y a
 

@@ -32,4 +32,4 @@ IsOperandMultiple es x = (e : Syntax) × (w : List ℕ) × (es ≡ e ∷ Word w 
 
 -- a number times the value of a word
 abbrev pub word_multiple_value : Result Fraction FracFault → ValueOrFault → ValueOrFault
-word_multiple_value x worth = value_of_number x >>= λ left. value_with_operand Multiply left worth
+word_multiple_value x value_or_fault = value_of_number x >>= λ left. value_with_operand Multiply left value_or_fault

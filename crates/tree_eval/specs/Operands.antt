@@ -37,7 +37,7 @@ operands_with_steps (Sum terms) = map signed_operand (syntax_of_terms terms.now)
 
 -- the running value combined with a member of this value
 abbrev pub value_with_operand : Step → Amount → ValueOrFault → ValueOrFault
-value_with_operand step held worth = worth >>= operand_step_value step held
+value_with_operand step held value_or_fault = value_or_fault >>= operand_step_value step held
 
 -- the words of all members
 abbrev pub words_of_operands : List (Step × Syntax) → List WordUse

@@ -34,7 +34,7 @@ IsUsableEvalMeaning has (Function id) = IsTrue (has id)
 
 -- the outcome stores the result of an evaluation, unless memory ran out
 abbrev pub IsStoredValueOutcome : {E : Type 0} → Result Outcome E → Result Amount EvalFault → Type 0
-IsStoredValueOutcome (Err _) worth = ⊤
+IsStoredValueOutcome (Err _) value_or_fault = ⊤
 IsStoredValueOutcome (Ok o) (Ok q) = o ≡ outcome.Value q
 IsStoredValueOutcome (Ok o) (Err (answer.Value fault)) = o ≡ outcome.Fault fault
 IsStoredValueOutcome (Ok o) (Err answer.OutOfMemory) = ⊥

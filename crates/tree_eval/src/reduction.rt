@@ -44,10 +44,10 @@ pub fn reduce<E: Env, L: Ledger>(
 }
 
 // Turns a value or a fault into an outcome.
-fn to_outcome(worth: Result<Quantity, EvalFault>) -> Result<Outcome, AllocError>
-    ensures { IsStoredValueOutcome result worth }
+fn to_outcome(value_or_fault: Result<Quantity, EvalFault>) -> Result<Outcome, AllocError>
+    ensures { IsStoredValueOutcome result value_or_fault }
 {
-    match worth {
+    match value_or_fault {
         Ok(q) => Ok(Outcome::Value(q)),
         Err(EvalFault::Value(fault)) => Ok(Outcome::Fault(fault)),
         Err(EvalFault::OutOfMemory) => Err(AllocError),

@@ -93,7 +93,7 @@ impl<'a, E: Env> Scope<'a, E> {
     #[inline(never)]
     fn evaluate(&self, tree: &Tree, place: &mut usize, held: &mut Held<'a>) -> Result<(), EvalFault>
         requires { IsEvalWordRun (E.words self.now.env.now self.now.holder) place.old (words_in (syntax tree.now)) }
-        ensures worth { GivesValueOrFault (λ _. amount_of_held_value held.new) result (spec.value
+        ensures value_or_fault { GivesValueOrFault (λ _. amount_of_held_value held.new) result (spec.value
             (expand (E.means self.now.env.now) (syntax tree.now)) (option_copied self.now.arg)) }
         ensures place { OnOk result (place.new ≡ place.old + length (words_in (syntax tree.now))) }
     {
@@ -134,7 +134,7 @@ impl<'a, E: Env> Scope<'a, E> {
         held: &mut Held<'a>,
     ) -> Result<(), EvalFault>
         requires { IsEvalWordRun (E.words self.now.env.now self.now.holder) place.old (words_in (syntax operand.now)) }
-        ensures worth { GivesValueOrFault (λ _. amount_of_held_value held.new) result (spec.value
+        ensures value_or_fault { GivesValueOrFault (λ _. amount_of_held_value held.new) result (spec.value
             (expanded.Root kind (expand (E.means self.now.env.now) (syntax operand.now)))
             (option_copied self.now.arg)) }
         ensures place { OnOk result (place.new ≡ place.old + length (words_in (syntax operand.now))) }
@@ -153,7 +153,7 @@ impl<'a, E: Env> Scope<'a, E> {
         held: &mut Held<'a>,
     ) -> Result<(), EvalFault>
         requires { IsEvalWordRun (E.words self.now.env.now self.now.holder) place.old (words_in (syntax operand.now)) }
-        ensures worth { GivesValueOrFault (λ _. amount_of_held_value held.new) result (spec.value
+        ensures value_or_fault { GivesValueOrFault (λ _. amount_of_held_value held.new) result (spec.value
             (expanded.Negated (expand (E.means self.now.env.now) (syntax operand.now))) (option_copied self.now.arg)) }
         ensures place { OnOk result (place.new ≡ place.old + length (words_in (syntax operand.now))) }
     {
@@ -173,7 +173,8 @@ impl<'a, E: Env> Scope<'a, E> {
     ) -> Result<(), EvalFault>
         requires { IsEvalWordRun (E.words self.now.env.now self.now.holder) place.old
             (words_in (syntax base.now) ++ words_in (syntax exponent.now)) }
-        ensures worth { GivesValueOrFault (λ _. amount_of_held_value held.new) result (spec.value (expanded.Power
+        ensures value_or_fault { GivesValueOrFault (λ _. amount_of_held_value held.new) result
+            (spec.value (expanded.Power
             (expand (E.means self.now.env.now) (syntax base.now))
             (expand (E.means self.now.env.now) (syntax exponent.now))) (option_copied self.now.arg)) }
         ensures place { OnOk result (place.new ≡ place.old
@@ -189,7 +190,7 @@ impl<'a, E: Env> Scope<'a, E> {
     #[inline(never)]
     fn word(&self, place: &mut usize, held: &mut Held<'a>) -> Result<(), EvalFault>
         requires { place.old < length (E.words self.now.env.now self.now.holder) }
-        ensures worth { (u : WordUse) → slice_get (E.words self.now.env.now self.now.holder) place.old ≡ Some u
+        ensures value_or_fault { (u : WordUse) → slice_get (E.words self.now.env.now self.now.holder) place.old ≡ Some u
             → GivesValueOrFault (λ _. amount_of_held_value held.new) result
             (spec.value (eval_meaning_expansion (E.means self.now.env.now u)) (option_copied self.now.arg)) }
         ensures place { OnOk result (place.new ≡ place.old + 1) }
@@ -202,7 +203,7 @@ impl<'a, E: Env> Scope<'a, E> {
     #[inline(never)]
     fn with_word(&self, step: Step, place: &mut usize, held: &mut Held<'a>) -> Result<(), EvalFault>
         requires { place.old < length (E.words self.now.env.now self.now.holder) }
-        ensures worth { (u : WordUse) → slice_get (E.words self.now.env.now self.now.holder) place.old ≡ Some u
+        ensures value_or_fault { (u : WordUse) → slice_get (E.words self.now.env.now self.now.holder) place.old ≡ Some u
             → GivesValueOrFault (λ _. amount_of_held_value held.new) result
             (value_with_operand step (amount_of_held_value held.old)
             (spec.value (eval_meaning_expansion (E.means self.now.env.now u)) (option_copied self.now.arg))) }
@@ -217,7 +218,7 @@ impl<'a, E: Env> Scope<'a, E> {
     #[inline(never)]
     fn next_meaning(&self, place: &mut usize) -> Result<Meaning<'a>, AllocError>
         requires { place.old < length (E.words self.now.env.now self.now.holder) }
-        ensures told { IfOk result (λ meaning. (u : WordUse)
+        ensures reports { IfOk result (λ meaning. (u : WordUse)
             → slice_get (E.words self.now.env.now self.now.holder) place.old ≡ Some u
             → IsReportedEvalMeaning (E.has self.now.env.now) (E.callee self.now.env.now)
             (E.means self.now.env.now u) meaning) }
@@ -242,7 +243,7 @@ impl<'a, E: Env> Scope<'a, E> {
         requires within { place.old < length (E.words self.now.env.now self.now.holder) }
         requires stand { IsEvalWordRun (E.words self.now.env.now self.now.holder) (place.old + 1)
             (words_in (syntax operand.now)) }
-        ensures worth { (u : WordUse) → slice_get (E.words self.now.env.now self.now.holder) place.old ≡ Some u
+        ensures value_or_fault { (u : WordUse) → slice_get (E.words self.now.env.now self.now.holder) place.old ≡ Some u
             → GivesValueOrFault (λ _. amount_of_held_value held.new) result (spec.value (operand_expansion direction
             (E.means self.now.env.now u) (expand (E.means self.now.env.now) (syntax operand.now)))
             (option_copied self.now.arg)) }
@@ -258,7 +259,7 @@ impl<'a, E: Env> Scope<'a, E> {
             step: Step::Multiply,
             tree: operand,
         };
-        self.with_worth(factor, place, held)
+        self.join_member(factor, place, held)
     }
 
     // Evaluates operands side by side.
@@ -272,7 +273,7 @@ impl<'a, E: Env> Scope<'a, E> {
     ) -> Result<(), EvalFault>
         requires { IsEvalWordRun (E.words self.now.env.now self.now.holder) place.old
             (words_of_operands (map operand_by_side (syntax_of_trees trees.now))) }
-        ensures worth { GivesValueOrFault (λ _. amount_of_held_value held.new) result (spec.value
+        ensures value_or_fault { GivesValueOrFault (λ _. amount_of_held_value held.new) result (spec.value
             (chain (E.means self.now.env.now) (map operand_by_side (syntax_of_trees trees.now)))
             (option_copied self.now.arg)) }
         ensures place { OnOk result (place.new ≡ place.old
@@ -298,7 +299,7 @@ impl<'a, E: Env> Scope<'a, E> {
     ) -> Result<(), EvalFault>
         requires { IsEvalWordRun (E.words self.now.env.now self.now.holder) place.old
             (words_of_operands (operands_with_steps operands)) }
-        ensures worth { GivesValueOrFault (λ _. amount_of_held_value held.new) result (spec.value
+        ensures value_or_fault { GivesValueOrFault (λ _. amount_of_held_value held.new) result (spec.value
             (chain (E.means self.now.env.now) (operands_with_steps operands.entry)) (option_copied self.now.arg)) }
         ensures place { OnOk result
             (place.new ≡ place.old + length (words_of_operands (operands_with_steps operands.entry))) }
@@ -324,7 +325,7 @@ impl<'a, E: Env> Scope<'a, E> {
     ) -> Result<(), EvalFault>
         requires { IsEvalWordRun (E.words self.now.env.now self.now.holder) place.old
             (words_in (syntax operand.tree.now)) }
-        ensures worth { GivesValueOrFault (λ _. amount_of_held_value held.new) result
+        ensures value_or_fault { GivesValueOrFault (λ _. amount_of_held_value held.new) result
             (value_with_operand operand.entry.step (amount_of_held_value held.old)
             (spec.value (expand (E.means self.now.env.now) (syntax operand.entry.tree.now))
             (option_copied self.now.arg))) }
@@ -334,14 +335,14 @@ impl<'a, E: Env> Scope<'a, E> {
         match operand.tree {
             Tree::Number(x) => operand.step.take_numeral(self.alloc, held, x),
             Tree::Word(_) => self.with_word(operand.step, place, held),
-            _ => self.with_worth(operand, place, held),
+            _ => self.join_member(operand, place, held),
         }
     }
 
     // Combines the running value with one more member, which is evaluated into a slot of its own.
     #[cycle(eval)]
     #[inline(never)]
-    fn with_worth(
+    fn join_member(
         &self,
         operand: Operand<'_>,
         place: &mut usize,
@@ -349,7 +350,7 @@ impl<'a, E: Env> Scope<'a, E> {
     ) -> Result<(), EvalFault>
         requires { IsEvalWordRun (E.words self.now.env.now self.now.holder) place.old
             (words_in (syntax operand.tree.now)) }
-        ensures worth { GivesValueOrFault (λ _. amount_of_held_value held.new) result
+        ensures value_or_fault { GivesValueOrFault (λ _. amount_of_held_value held.new) result
             (value_with_operand operand.entry.step (amount_of_held_value held.old)
             (spec.value (expand (E.means self.now.env.now) (syntax operand.entry.tree.now))
             (option_copied self.now.arg))) }

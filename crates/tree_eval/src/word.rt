@@ -18,7 +18,7 @@ use std::alloc::Global;
 
 // Returns the value of a single word: the value of a name, a prefix times a unit, or the fault of a function without an
 // argument.
-fn word_worth<'a, E: Env>(
+fn value_of_word<'a, E: Env>(
     alloc: Global,
     env: &'a E,
     meaning: Meaning<'a>,
@@ -46,7 +46,7 @@ pub(crate) fn put_word<'a, E: Env>(
     ensures { answer.GivesValueOrFault (λ _. answer.amount_of_held_value held.new) result
         (spec.reported_word_value (E.callee env.now) meaning.entry) }
 {
-    *held = word_worth(alloc, env, meaning)?;
+    *held = value_of_word(alloc, env, meaning)?;
     Ok(())
 }
 
@@ -82,7 +82,7 @@ pub(crate) fn join_word<'a, E: Env>(
 {
     match meaning {
         Meaning::One(Outcome::Value(q)) => step.join(alloc, left, q),
-        _ => step.join_held(alloc, left, word_worth(alloc, env, meaning)?),
+        _ => step.join_held(alloc, left, value_of_word(alloc, env, meaning)?),
     }
 }
 

@@ -29,10 +29,11 @@ c_edit_is_noted : (e e' : EditedTableView) (deck : DeckContents) (answered : Res
     → IsAnsweredCEdit deck answered e e' → NotesCEdit result (Some e) (Some e')
 c_edit_is_noted e e' deck (Ok answer) room result written out memory handed is = (
   (λ done. is.change_noted
-      (c_call_is_done (length answer.text) room result (status_code answer.status) handed.status_told handed.no_room
+      (c_call_is_done (length answer.text) room result (status_code answer.status) handed.status_is_result
+      handed.no_room
       done)),
   (λ other. is.no_note (λ done. c_call_is_not_done (length answer.text) room result (status_code answer.status)
-      handed.status_told
+      handed.status_is_result
       (λ d. ap length (is.without_text d)) other done)),
 )
 c_edit_is_noted e e' deck (Err x) room result written out memory handed is =
@@ -45,10 +46,11 @@ c_table_turns : (IsTurn : EditedTableView → EditedTableView → Type 0) (e e' 
     → IfOk answered (λ answer. IsAnswerHandedToC answer room result written out)
     → IsAnsweredCTurn IsTurn answered e e' → TurnsCTable IsTurn result (Some e) (Some e')
 c_table_turns IsTurn e e' (Ok answer) room result written out memory handed is = (
-  (λ done. is.turn_made (c_call_is_done (length answer.text) room result (status_code answer.status) handed.status_told
+  (λ done. is.turn_made
+      (c_call_is_done (length answer.text) room result (status_code answer.status) handed.status_is_result
       handed.no_room done)),
   (λ other. is.no_turn (λ done. c_call_is_not_done (length answer.text) room result (status_code answer.status)
-      handed.status_told (λ d. ap length (is.without_text d)) other done)),
+      handed.status_is_result (λ d. ap length (is.without_text d)) other done)),
 )
 c_table_turns IsTurn e e' (Err x) room result written out memory handed is =
     ((λ done. absurd (omega arith)), (λ _. is))

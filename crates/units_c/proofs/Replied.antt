@@ -36,9 +36,10 @@ c_reply_answers_conversion laws table options from to =
     (conversion_inquiry table options from to).answer
 
 -- the answer for the text of a fault is the answer to the value
-pub c_fault_text_answers_value : TellStatuses → (options : Options) (worth : Result Amount ReplyFault) (text : List ℕ)
-    → reply_from_value options worth ≡ Bad text
-    → answer_of (status_of_text text) text ≡ c_value_answer options worth
+pub c_fault_text_answers_value : TellStatuses → (options : Options) (value_or_fault : Result Amount ReplyFault)
+    (text : List ℕ)
+    → reply_from_value options value_or_fault ≡ Bad text
+    → answer_of (status_of_text text) text ≡ c_value_answer options value_or_fault
 c_fault_text_answers_value laws options (Ok x) text is = absurd (cc)
 c_fault_text_answers_value laws options (Err fault) text is =
     let same : text ≡ fault_text (reply_style options) fault = cc in

@@ -56,6 +56,6 @@ fault_status (Value fault) = value_status fault
 fault_status (ListUnit place) = status.ListUnitNotPositive
 
 -- the status of a value or of its fault
-abbrev pub worth_status : Result Amount ReplyFault → Status
-worth_status (Ok x) = status.Done
-worth_status (Err fault) = fault_status fault
+abbrev pub c_value_status : Result Amount ReplyFault → Status
+c_value_status (Ok x) = status.Done
+c_value_status (Err fault) = fault_status fault

@@ -33,10 +33,10 @@ pub extern "C" fn units_value(
     written: &mut usize,
 ) -> u32
     ensures answer { IsCTableAnswered table.old.handle.held
-        (λ e. spec.c_value_answer c_exact_options (spec.c_worth_of (c_query_table e) expression.now))
+        (λ e. spec.c_value_answer c_exact_options (spec.c_value_of (c_query_table e) expression.now))
         (length out.old) result written.new out.new }
     ensures number { result ≢ status_code statuses.NoMemory → IfSome table.old.handle.held
-        (λ e. HasCNumber number.new (spec.c_worth_of (c_query_table e) expression.now)) }
+        (λ e. HasCNumber number.new (spec.c_value_of (c_query_table e) expression.now)) }
     ensures unedited { IsCTableUnedited table.old.handle.held table.new.handle.held }
 {
     *written = 0;
@@ -56,9 +56,9 @@ fn answer_value(
     number: &mut UnitsNumber,
 ) -> Result<Answer, AllocError>
     ensures answer { IfOk result (λ answer.
-        answer ≡ spec.c_value_answer c_exact_options (spec.c_worth_of (c_query_table content.old) expression.now)) }
+        answer ≡ spec.c_value_answer c_exact_options (spec.c_value_of (c_query_table content.old) expression.now)) }
     ensures number { IfOk result (λ _.
-        HasCNumber number.new (spec.c_worth_of (c_query_table content.old) expression.now)) }
+        HasCNumber number.new (spec.c_value_of (c_query_table content.old) expression.now)) }
     ensures unedited { c_definitions_of content.new ≡ c_definitions_of content.old }
 {
     statuses_law();

@@ -101,7 +101,7 @@ pub trait Files {
     /// more than `LONGEST_FILE` bytes, and `Failed` if it could not be read. The count of failed fetches increases by
     /// one on `Failed`, and only then.
     fn fetch(&mut self, alloc: Global, name: &[u8]) -> Result<Text, FetchFault>
-        ensures told { IfSome (files self.old) (λ m. IsFileFetched m name.now result) }
+        ensures if_known { IfSome (files self.old) (λ m. IsFileFetched m name.now result) }
         ensures within { IfOk result (λ text. length text ≤ longest_file) }
         ensures fetched { is_fetch self.old name.now result self.new }
         ensures kept { files self.new ≡ files self.old }
@@ -114,7 +114,7 @@ pub trait Files {
     /// changes.
     fn store(&mut self, alloc: Global, name: &[u8], bytes: &[u8]) -> Result<(), StoreFault>
         requires { length bytes.now ≤ longest_file }
-        ensures told { IsFileStored (files self.old) (files self.new) name.now bytes.now result }
+        ensures if_known { IsFileStored (files self.old) (files self.new) name.now bytes.now result }
         ensures cause { StoreHasCause (store_faults self.old) (store_faults self.new) result }
         ensures counted { store_faults self.new ≡ faults_after_store (store_faults self.old) result }
         ensures fetches { faults self.new ≡ faults self.old };

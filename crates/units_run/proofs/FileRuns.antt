@@ -90,7 +90,7 @@ pub run_by_file : (words : List (List ℕ)) (line : CommandLine) (text input out
     → IsRunWith (run_over (plan_over line text vars files) files input (heard_lines (input_lines input))) out err
     status)
     → RunGives words text input out err status
-run_by_file words line text input out err status is trial file gives vars files told =
+run_by_file words line text input out err status is trial file gives vars files files_if_known =
     let settings = run_settings line vars in
     subst (λ (plan : Plan). IsRunWith (run_over plan files input (heard_lines (input_lines input))) out err status)
     (sym
@@ -100,7 +100,7 @@ run_by_file words line text input out err status is trial file gives vars files 
     ∙ ap
     (λ (bytes : Option (List ℕ)).
     file_plan line first (deck_append_by_answer files first (file_fetch_answer bytes) (empty_deck settings))
-    files) told))
+    files) files_if_known))
     (gives vars files)
 
 -- ---- a conversion

@@ -129,7 +129,7 @@ pub run_grants_conversion : ConversionGrantLaw → (words : List (List ℕ)) (va
     (before after : SessionWorld)
     → IsRun words vars ending before after
     → RunGrantsExactly words vars ending before.files.known_files before.out.bytes_written after.out.bytes_written
-run_grants_conversion law words vars ending before after run files deck from to told asks stated =
+run_grants_conversion law words vars ending before after run files deck from to files_if_known asks stated =
     let line = command_line_of words in
     let none : run_needs_input words ≡ false =
     run_without_column_needs_no_input (are_command_words_accepted words) (is_some line.trial) (is_some line.from)
@@ -149,7 +149,7 @@ run_grants_conversion law words vars ending before after run files deck from to 
     (run_value_known_for_lesser_need (run_needs_files words) (run_fetches_file words input.0) before.files.known_files
     files
     (run_without_files_fetches_none words input.0)
-    told) input.1)) in
+    files_if_known) input.1)) in
     record {
       reply = conversion_reply (table_of_deck deck) (run_options line) from to;
       grants = law deck (run_options line) from to;

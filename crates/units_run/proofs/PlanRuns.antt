@@ -106,29 +106,32 @@ pub planned_session_is_opened : (want : plans.Plan) (files : FileMap) (said : Sa
     said
     session
     before now
-planned_session_is_opened (plans.Whole run) files said session before now planned out err kept told faults stores =
+planned_session_is_opened (plans.Whole run) files said session before now planned out err kept files_if_known faults
+    stores =
     absurd planned
-planned_session_is_opened (plans.Columns work) files said session before now planned out err kept told faults stores =
+planned_session_is_opened (plans.Columns work) files said session before now planned out err kept files_if_known faults
+    stores =
     absurd planned
-planned_session_is_opened (plans.Opened first) files said session before now planned out err kept told faults stores = (
-  first,
-  refl,
-  record {
-    out = out;
-    err = err;
-    files = kept;
-    faults = faults;
-    stores = stores;
-    is_at = record {
-      out = planned.out;
-      err = planned.err;
-      session = planned.session;
-      files = kept ∙ told ∙ ap (next_session_value_if_known before.files)
-          (same_Some files first.state.files planned.files);
-      steps = planned.steps;
-    };
-  },
-)
+planned_session_is_opened (plans.Opened first) files said session before now planned out err kept files_if_known faults
+    stores = (
+      first,
+      refl,
+      record {
+        out = out;
+        err = err;
+        files = kept;
+        faults = faults;
+        stores = stores;
+        is_at = record {
+          out = planned.out;
+          err = planned.err;
+          session = planned.session;
+          files = kept ∙ files_if_known ∙ ap (next_session_value_if_known before.files)
+              (same_Some files first.state.files planned.files);
+          steps = planned.steps;
+        };
+      },
+    )
 
 session_run_output_is_written : (course : SessionCourse) (end : SessionEnd) (before after : SessionOutside)
     → IsSessionEnded course end before after
@@ -249,7 +252,7 @@ run_memory_end_is_not_too_long is = cc
 pub run_files_stay_known : (needed : Bool) (files : Option FileMap) (m : FileMap) → IsSessionValueIfKnown needed files m
     → files ≡ next_session_value_if_known files m
 run_files_stay_known needed None m h = refl
-run_files_stay_known needed (Some told) m h = ap Some h
+run_files_stay_known needed (Some files_if_known) m h = ap Some h
 
 -- a run ends with a read fault only if its session does
 pub run_read_fault_of_session : (e : SessionEnd) → run_status_of_session_end e ≡ ReadFault → e ≡ end.ReadFault
@@ -315,13 +318,15 @@ run_is_neither_of_both a b (inl x) = a x
 run_is_neither_of_both a b (inr x) = b x
 
 -- a session that was opened is not a run that opens none
-pub session_run_opens_a_session : (words : List (List ℕ)) (vars : NamedTexts) (told : Option FileMap) (said : Said)
+pub session_run_opens_a_session : (words : List (List ℕ)) (vars : NamedTexts) (files_if_known : Option FileMap)
+    (said : Said)
     (session : SessionState)
     (e : SessionEnd) (ending : Status) (old new : ℕ) → run_opens_session words ≡ true
     → run_status_of_session_end e ≡ ending
-    → ((m : FileMap) → IsSessionValueIfKnown (run_needs_definitions words) told m
-    → IsPlan (plan_of words vars m) m (Opened said session) old new) → RunOpensNoSession words vars ending told → ⊥
-session_run_opens_a_session words vars told said session e ending old new opens is planned =
+    → ((m : FileMap) → IsSessionValueIfKnown (run_needs_definitions words) files_if_known m
+    → IsPlan (plan_of words vars m) m (Opened said session) old new)
+    → RunOpensNoSession words vars ending files_if_known → ⊥
+session_run_opens_a_session words vars files_if_known said session e ending old new opens is planned =
     run_is_neither_of_both (λ (e : run_opens_session words ≡ false). both_ways (run_opens_session words) e opens)
     (run_is_neither_of_both (λ file. session_run_has_its_file e (is ∙ file))
     (λ whole.
@@ -330,11 +335,11 @@ session_run_opens_a_session words vars told said session e ending old new opens 
 
 -- a run that reads no input opens no session
 pub run_without_input_opens_no_session : (words : List (List ℕ)) (vars : NamedTexts) (ending : Status)
-    (told : Option FileMap)
-    → RunTakesNoInput words vars ending told → RunOpensNoSession words vars ending told
-run_without_input_opens_no_session words vars ending told (inl none) =
+    (files_if_known : Option FileMap)
+    → RunTakesNoInput words vars ending files_if_known → RunOpensNoSession words vars ending files_if_known
+run_without_input_opens_no_session words vars ending files_if_known (inl none) =
     inl (or_parts (run_opens_session words) (run_converts_column words) none).0
-run_without_input_opens_no_session words vars ending told (inr none) = inr none
+run_without_input_opens_no_session words vars ending files_if_known (inr none) = inr none
 
 -- a whole run cannot end with `Done` if its words lead to a session, because then there is no deck
 pub whole_session_run_is_not_done : (session column : Bool) (status : Status)

@@ -57,8 +57,8 @@ stated_plan_status (Columns work) course wanted ending before after stated left 
     stated_run_status_of_column (output_of_session_course course) wanted ending before after stated left
 
 -- a value that is not needed, and may be known
-pub unneeded_run_value_may_be_known : {X : Type 0} (needed : Bool) (told : Option X) (x : X) → needed ≡ false
-    → (y : X) × IsSessionValueIfKnown needed told y
+pub unneeded_run_value_may_be_known : {X : Type 0} (needed : Bool) (files_if_known : Option X) (x : X) → needed ≡ false
+    → (y : X) × IsSessionValueIfKnown needed files_if_known y
 unneeded_run_value_may_be_known needed (Some y) x none = (y, refl)
 unneeded_run_value_may_be_known needed None x none = (x, none)
 
@@ -75,22 +75,23 @@ pub status_of_run : (words : List (List ℕ)) (vars : NamedTexts) (ending : Stat
     → (files : FileMap) (input : List ℕ)
     → ending ≡ (run_of (record { words = words; vars = vars; files = files; input = input })).status
 status_of_run words vars ending before after run no_files none stated files input =
-    let told = unneeded_run_value_may_be_known (run_needs_files words) before.files.known_files files no_files in
+    let files_if_known = unneeded_run_value_may_be_known (run_needs_files words) before.files.known_files files no_files
+    in
     let left = unneeded_run_value_may_be_known (run_needs_input words) before.source.input_left input none in
-    let plan = plan_of words vars told.0 in
+    let plan = plan_of words vars files_if_known.0 in
     stated_plan_status plan
-    (run_course (record { words = words; vars = vars; files = told.0; input = left.0 }))
-    (run_of (record { words = words; vars = vars; files = told.0; input = left.0 })).status ending
+    (run_course (record { words = words; vars = vars; files = files_if_known.0; input = left.0 }))
+    (run_of (record { words = words; vars = vars; files = files_if_known.0; input = left.0 })).status ending
     (session_world_outside before)
-    (session_world_outside after) stated (run.files_after told.0 left.0
+    (session_world_outside after) stated (run.files_after files_if_known.0 left.0
     (run_value_known_for_lesser_need (run_needs_files words) (run_fetches_file words left.0) before.files.known_files
-    told.0
+    files_if_known.0
     (run_without_files_fetches_none words left.0)
-    told.1) left.1)
-    ∙ whole_plan_status_is_fixed plan told.0 files left.0 input (heard_lines (input_lines left.0))
+    files_if_known.1) left.1)
+    ∙ whole_plan_status_is_fixed plan files_if_known.0 files left.0 input (heard_lines (input_lines left.0))
     (heard_lines (input_lines input))
-    (plan_without_input_is_whole words vars told.0 none)
+    (plan_without_input_is_whole words vars files_if_known.0 none)
     ∙ subst
     (λ (p : Plan). (run_over plan files input (heard_lines (input_lines input))).status
     ≡ (run_over p files input (heard_lines (input_lines input))).status)
-    (plan_is_the_same_over_all_files words vars told.0 files no_files) refl
+    (plan_is_the_same_over_all_files words vars files_if_known.0 files no_files) refl

@@ -63,7 +63,7 @@ run_without_file_loads_none words line taken read none =
 pub run_value_known_for_lesser_need : {X : Type 0} (needed less : Bool) (o : Option X) (x : X)
     → (needed ≡ false → less ≡ false)
     → IsSessionValueIfKnown needed o x → IsSessionValueIfKnown less o x
-run_value_known_for_lesser_need needed less (Some told) x h s = s
+run_value_known_for_lesser_need needed less (Some files_if_known) x h s = s
 run_value_known_for_lesser_need needed less None x h s = h s
 
 -- a session needs files
@@ -84,7 +84,7 @@ pub needed_run_value_is_known : {X : Type 0} (needed : Bool) (o : Option X) (x :
     → IsSessionValueIfKnown needed o x → o ≡ Some x
 needed_run_value_is_known true None x e h = cc
 needed_run_value_is_known false None x e h = cc
-needed_run_value_is_known needed (Some told) x e h = ap Some h
+needed_run_value_is_known needed (Some files_if_known) x e h = ap Some h
 
 -- a file is fetched only if the words need files
 run_needs_no_second_condition : (a b : Bool) → a ≡ true → (a && b) ≡ false → b ≡ false
@@ -109,7 +109,7 @@ run_without_files_fetches_none words input none =
 pub run_files_known_for_session : (words : List (List ℕ)) (input : List ℕ) (files : Option FileMap) (m : FileMap)
     → run_opens_session words ≡ true → IsSessionValueIfKnown (run_fetches_file words input) files m
     → IsSessionValueKnownIfNeeded (heard_input_loads_file input) files
-run_files_known_for_session words input (Some told) m opens s = tt
+run_files_known_for_session words input (Some files_if_known) m opens s = tt
 run_files_known_for_session words input None m opens s =
     run_needs_no_second_condition (run_opens_session words) (heard_input_loads_file input) opens
     (or_parts (run_needs_definitions words) (run_opens_session words && heard_input_loads_file input) s).1

@@ -56,10 +56,11 @@ pub record IsRunReplyTo (words : List (List ℕ)) (deck : DeckContents) (from to
 
 -- a conversion that the words give is granted exactly if full expansion is defined, conformable and within 127 bits,
 -- and its number is that exact fraction
-abbrev pub RunGrantsExactly : (words : List (List ℕ)) → NamedTexts → Status → (told : Option FileMap) →
+abbrev pub RunGrantsExactly : (words : List (List ℕ)) → NamedTexts → Status → (files_if_known : Option FileMap) →
     (before after : Option (List ℕ)) → Type 0
-RunGrantsExactly words vars ending told before after =
-    (files : FileMap) (deck : DeckContents) (from to : List ℕ) → IsSessionValueIfKnown (run_needs_files words) told
+RunGrantsExactly words vars ending files_if_known before after =
+    (files : FileMap) (deck : DeckContents) (from to : List ℕ)
+    → IsSessionValueIfKnown (run_needs_files words) files_if_known
     files
     → RunAsksForConversion words vars files deck from to → IsStatedRunEnd ending
     → IsRunReplyTo words deck from to ending before after

@@ -28,7 +28,7 @@ impl ColumnPlan {
         steps: &mut Steps<L>,
     ) -> Status
         requires { AreReplyOptionsPrintable self.task.options × (1 ≤ self.task.column) }
-        ensures told { planning.IsColumnPlanConverted self result
+        ensures if_known { planning.IsColumnPlanConverted self result
             (planning.run_ends (S.left src.old) (O.written out.old) (E.written err.old) steps.old)
             (planning.run_ends (S.left src.new) (O.written out.new) (E.written err.new) steps.new) }
         ensures noticed { ((src.new ≡ src.old) × (out.new ≡ out.old))

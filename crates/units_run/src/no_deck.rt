@@ -15,7 +15,7 @@ use std::alloc::{AllocError, Global};
 /// Returns the plan that writes to `err` why the file of this name gives no deck. Returns an error if a fetch failed or
 /// memory ran out.
 pub(crate) fn no_deck_plan(alloc: Global, fault: &DeckFault, name: &[u8]) -> Result<Plan, Halt>
-    ensures told { (m : FileMap) (n : ℕ) →
+    ensures if_known { (m : FileMap) (n : ℕ) →
         IsPlanned (complaint_plan (spec.no_deck_run_line fault.now name.now) Status.NoFile) m result n n }
     ensures kind { (session column : Bool) → IfOk result (IsPossiblePlan true true session column) }
     ensures fault { IfOk result (λ plan. MayDeckLoadFailWith fault.now → ⊥) }
@@ -30,7 +30,7 @@ pub(crate) fn no_deck_plan(alloc: Global, fault: &DeckFault, name: &[u8]) -> Res
 
 // Returns the plan with the line for `err`.
 fn no_deck_complaint(alloc: Global, fault: &DeckFault, name: &[u8]) -> Result<Plan, AllocError>
-    ensures told { (m : FileMap) (n : ℕ) →
+    ensures if_known { (m : FileMap) (n : ℕ) →
         IsPlanned (complaint_plan (spec.no_deck_run_line fault.now name.now) Status.NoFile) m result n n }
     ensures kind { (session column : Bool) → IfOk result (IsPossiblePlan true true session column) }
 {

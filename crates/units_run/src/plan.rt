@@ -27,7 +27,7 @@ pub(crate) enum Plan {
 impl Plan {
     /// Returns the plan that writes a text to `err`, and nothing else.
     pub(crate) fn complaint(alloc: Global, text: &[u8], status: Status) -> Result<Plan, AllocError>
-        ensures told { (m : FileMap) (n : ℕ) → IsPlanned (spec.complaint_plan text.now status) m result n n }
+        ensures if_known { (m : FileMap) (n : ℕ) → IsPlanned (spec.complaint_plan text.now status) m result n n }
         ensures kind { (taken file session column : Bool) → ((session || column) ≡ true → status ≡ Status.NoFile) →
             RunMayEnd taken file session status → IfOk result (IsPossiblePlan taken file session column) }
     {

@@ -35,7 +35,7 @@ pub(crate) fn make_plan<F: Files, L: Ledger>(
     files: &mut F,
     steps: &mut Steps<L>,
 ) -> Result<Plan, Halt>
-    ensures told { (m : FileMap) → IsSessionValueIfKnown (run_needs_definitions words.now) (F.files files.old) m →
+    ensures if_known { (m : FileMap) → IsSessionValueIfKnown (run_needs_definitions words.now) (F.files files.old) m →
         IsPlanned (spec.plan_of words.now vars.now m) m result steps.old steps.new }
     ensures kind { IfOk result
         (IsPossiblePlan (are_command_words_accepted words.now) (run_loads_file (command_line_of words.now))
@@ -65,7 +65,7 @@ fn line_plan<F: Files, L: Ledger>(
     requires digits { options.HasValidRunDigits line.now }
     requires rounds { options.HasValidRunRounds line.now }
     requires column { options.HasValidRunColumn line.now }
-    ensures told { (m : FileMap) → IsSessionValueIfKnown (run_loads_file line.now) (F.files files.old) m →
+    ensures if_known { (m : FileMap) → IsSessionValueIfKnown (run_loads_file line.now) (F.files files.old) m →
         IsPlanned (spec.line_plan line.now vars.now m) m result steps.old steps.new }
     ensures kind { IfOk result
         (IsPossiblePlan true (run_loads_file line.now) (is_run_of_session line.now) (is_run_of_column line.now)) }
@@ -93,7 +93,7 @@ fn trial_plan<L: Ledger>(
     requires digits { options.HasValidRunDigits line.now }
     requires some { 1 ≤ rounds }
     requires few { rounds ≤ 20000 }
-    ensures told { (m : FileMap) →
+    ensures if_known { (m : FileMap) →
         IsPlanned (spec.trial_plan (trial_session (options.run_options line.now) settings rounds)) m result steps.old
         steps.new }
     ensures kind { IfOk result (IsPossiblePlan true false false false) }
@@ -116,7 +116,7 @@ fn deck_plan<F: Files, L: Ledger>(
 ) -> Result<Plan, Halt>
     requires digits { options.HasValidRunDigits line.now }
     requires column { options.HasValidRunColumn line.now }
-    ensures told { (m : FileMap) → IsSessionValueIfKnown (is_some line.now.file) (F.files files.old) m →
+    ensures if_known { (m : FileMap) → IsSessionValueIfKnown (is_some line.now.file) (F.files files.old) m →
         IsPlanned (spec.deck_plan line.now.file line.now settings m) m result steps.old steps.new }
     ensures kind { IfOk result
         (IsPossiblePlan true (is_some line.now.file) (not (is_some line.now.from || line.now.check))

@@ -38,7 +38,7 @@ pub(crate) fn work<L: Ledger>(
 ) -> Result<Plan, AllocError>
     requires digits { HasValidRunDigits line.now }
     requires column { HasValidRunColumn line.now }
-    ensures told { (m : FileMap) →
+    ensures if_known { (m : FileMap) →
         IsPlanned (spec.plan_of_work line.now.from line.now deck m) m result steps.old steps.new }
     ensures kind { IfOk result (IsPossiblePlan true false (not (is_some line.now.from || line.now.check))
         (is_some line.now.from && is_some line.now.column)) }
@@ -72,7 +72,7 @@ fn reply_plan<L: Ledger>(
 ) -> Result<Plan, AllocError>
     requires digits { HasValidRunDigits line.now }
     requires fresh { table.old ≡ queries.fresh_session_table table.old.deck }
-    ensures told { (m : FileMap) → IsPlanned
+    ensures if_known { (m : FileMap) → IsPlanned
         (spec.from_plan None line.now (line_content from.now) (line_content (unwrap_or line.now.to [])) table.old.deck)
         m result
         steps.old steps.new }
@@ -106,7 +106,7 @@ fn column_plan(
     requires digits { HasValidRunDigits line.now }
     requires some { 1 ≤ column }
     requires fresh { table ≡ queries.fresh_session_table table.deck }
-    ensures told { (m : FileMap) (n : ℕ) → IsPlanned
+    ensures if_known { (m : FileMap) (n : ℕ) → IsPlanned
         (spec.from_plan (Some column) line.now (line_content from.now) (line_content (unwrap_or line.now.to []))
         table.deck) m result n n }
     ensures kind { IfOk result (IsPossiblePlan true false false true) }
@@ -129,7 +129,7 @@ fn column_plan(
 fn check_plan(alloc: Global, line: &CommandLine, table: LiveTable) -> Result<Plan, AllocError>
     requires digits { HasValidRunDigits line.now }
     requires fresh { table ≡ queries.fresh_session_table table.deck }
-    ensures told { (m : FileMap) (n : ℕ) → IsPlanned (spec.plan_of_check line.now table.deck) m result n n }
+    ensures if_known { (m : FileMap) (n : ℕ) → IsPlanned (spec.plan_of_check line.now table.deck) m result n n }
     ensures kind { IfOk result (IsPossiblePlan true false false false) }
 {
     let notices = notice_lines(alloc, table.deck())?;
@@ -144,7 +144,7 @@ fn check_plan(alloc: Global, line: &CommandLine, table: LiveTable) -> Result<Pla
 fn session_plan(alloc: Global, line: &CommandLine, table: LiveTable) -> Result<Plan, AllocError>
     requires digits { HasValidRunDigits line.now }
     requires fresh { table ≡ queries.fresh_session_table table.deck }
-    ensures told { (m : FileMap) (n : ℕ) → IsPlanned (spec.plan_of_session line.now table.deck m) m result n n }
+    ensures if_known { (m : FileMap) (n : ℕ) → IsPlanned (spec.plan_of_session line.now table.deck m) m result n n }
     ensures kind { IfOk result (IsPossiblePlan true false true false) }
 {
     let session = Session::new(alloc, table, options_of(line));

@@ -26,15 +26,15 @@ use Rattle.table_names.specs.Kinds.{ForOne, ForTwo, MeaningKindLaw, StandsForTar
 use Rattle.table_names.specs.Kinds.{table_name_may_mean}
 use Rattle.table_names.specs.Leads.{table_word_targets}
 use Rattle.table_names.specs.Meanings.{expansion, key_meaning, targets_meaning, word_meaning}
-use Rattle.live_table.specs.Answers.{live_answer_of_worth, live_answer_value}
+use Rattle.live_table.specs.Answers.{live_answer_of_value, live_answer_value}
 use Rattle.value_sources.specs.FailedSteps.{are_source_function, is_source_function_kind, is_source_function_word}
 use Rattle.value_sources.specs.FailedSteps.{source_value_of_tree}
 use Rattle.general_lemmas.proofs.Members.{no_member, member_first, member_cases}
 
 -- the value of an evaluation, if it has one
-abbrev pub worth_value : ValueOrFault → Option Amount
-worth_value (Ok v) = Some v
-worth_value (Err fault) = None
+abbrev pub value_without_fault : ValueOrFault → Option Amount
+value_without_fault (Ok v) = Some v
+value_without_fault (Err fault) = None
 
 -- a kind that is one of functions
 source_function_kind_is_func : (k : Kind) → is_source_function_kind k ≡ true → k ≡ kind.Func
@@ -101,15 +101,15 @@ module _ (t : EntryTable) where
 
 -- the value of an expression without a name fault is that of its expansion
 module _ (t : EntryTable) where
-  named_value : (r : ValueOrFault) → live_answer_value (live_answer_of_worth None r) ≡ worth_value r
+  named_value : (r : ValueOrFault) → live_answer_value (live_answer_of_value None r) ≡ value_without_fault r
   named_value (Ok v) = refl
   named_value (Err fault) = refl
 
-  pub closed_value : (e : Syntax) → AreClosedWords t (words_in e) → source_value_of_tree t e ≡ worth_value
+  pub closed_value : (e : Syntax) → AreClosedWords t (words_in e) → source_value_of_tree t e ≡ value_without_fault
       (value (expansion t e) None)
   unfolding source_value_of_tree
   closed_value e c =
-      ap (λ (o : Option NameFault). live_answer_value (live_answer_of_worth o (value (expansion t e) None))) c
+      ap (λ (o : Option NameFault). live_answer_value (live_answer_of_value o (value (expansion t e) None))) c
       ∙ named_value (value (expansion t e) None)
 
 -- ---- in a table that fits kinds
@@ -168,10 +168,10 @@ module _ (closing : ClosedWordLaw) (kinds : MeaningKindLaw) (t : EntryTable) (fi
 
   pub plain_value : (w : List ℕ) → is_source_function_word t (called_eval_word w) ≡ false
       → TableWordLeadsInto t (IsClosedKey t) (called_eval_word w)
-      → source_value_of_tree t (tree.Word w) ≡ worth_value
+      → source_value_of_tree t (tree.Word w) ≡ value_without_fault
       (value (eval_meaning_expansion (word_meaning t (called_eval_word w))) None)
   plain_value w fails leads =
       closed_value t (tree.Word w) (plain_closed w fails leads)
       ∙ ap (λ (ks : List Key).
-      worth_value (value (eval_meaning_expansion (targets_meaning (map (key_meaning t) ks))) None))
+      value_without_fault (value (eval_meaning_expansion (targets_meaning (map (key_meaning t) ks))) None))
       (plain_targets t w fails)

@@ -30,12 +30,12 @@ use Rattle.value_sources.specs.FailedSteps.{failed_step_after, failed_step_of_pr
 use Rattle.value_sources.specs.FailedSteps.{is_source_function_word, failed_step_unless_joined, step_failed_in}
 use Rattle.value_sources.specs.FailedSteps.{source_value_of_tree}
 use Rattle.value_sources.specs.StepFaults.{failed_step_result}
-use Rattle.value_sources.proofs.FunctionWords.{closed_value, worth_value}
+use Rattle.value_sources.proofs.FunctionWords.{closed_value, value_without_fault}
 
 -- the fault of an operand and a step after it, by whether the operand has a value
 module _ {G : Type 0} (found : FailedStep) (fault : ValueFault) where
   after_fault : (r : ValueOrFault) (k : Amount → ValueOrFault) (o : Option Amount) (inside : Option FailedStep)
-      (next : Amount → Option FailedStep) → o ≡ worth_value r
+      (next : Amount → Option FailedStep) → o ≡ value_without_fault r
       → (inside ≡ Some found → r ≡ Err fault → G)
       → ((v : Amount) → next v ≡ Some found → k v ≡ Err fault → G)
       → failed_step_after o inside next ≡ Some found → (r >>= k) ≡ Err fault → G
@@ -50,9 +50,9 @@ pub failing_opposite_step_fault : (r : ValueOrFault) (fault : ValueFault)
 failing_opposite_step_fault (Ok v) fault e = cc
 failing_opposite_step_fault (Err f) fault e = e
 
-failing_step_same_worth : (r : ValueOrFault) → r ≡ (r >>= (λ v. Ok v))
-failing_step_same_worth (Ok v) = refl
-failing_step_same_worth (Err f) = refl
+failing_step_same_value : (r : ValueOrFault) → r ≡ (r >>= (λ v. Ok v))
+failing_step_same_value (Ok v) = refl
+failing_step_same_value (Err f) = refl
 
 module _ (t : EntryTable) (found : FailedStep) (fault : ValueFault) where
   abbrev pub HasFault : Type 0
@@ -116,7 +116,8 @@ module _ (t : EntryTable) (found : FailedStep) (fault : ValueFault) where
         (λ w i n. joined_fault s v w (operand_step s v w) rest k refl further i n) is fails
 
     -- a word that is no function and its operand
-    chain_fault : (word : List ℕ) (x : Expanded) → source_value_of_tree t (tree.Word word) ≡ worth_value (value x None)
+    chain_fault : (word : List ℕ) (x : Expanded) → source_value_of_tree t (tree.Word word) ≡ value_without_fault
+        (value x None)
         → failed_step_of_product (source_value_of_tree t (tree.Word word)) (source_value_of_tree t e)
         (step_failed_in (is_source_function_word t) (source_value_of_tree t) e) ≡ Some found
         → value (Chain x (Link Multiply (expansion t e) NoLink)) None ≡ Err fault → HasFault
@@ -129,14 +130,14 @@ module _ (t : EntryTable) (found : FailedStep) (fault : ValueFault) where
         (λ left i n. operand_fault (λ right. Some (Joined Multiply left right))
         (λ w. operand_step_value Multiply left w >>= (λ next. Ok next))
         (λ right j m. found_fault (Joined Multiply left right) j
-        (failing_step_same_worth (operand_step_value Multiply left right) ∙ m)) i n)
+        (failing_step_same_value (operand_step_value Multiply left right) ∙ m)) i n)
         is fails
       where
         no_step : None ≡ Some found → ⊥
         no_step q = cc
 
     pub product_fault : (word : List ℕ) (m : EvalMeaning)
-        → source_value_of_tree t (tree.Word word) ≡ worth_value (value (eval_meaning_expansion m) None)
+        → source_value_of_tree t (tree.Word word) ≡ value_without_fault (value (eval_meaning_expansion m) None)
         → failed_step_of_product (source_value_of_tree t (tree.Word word)) (source_value_of_tree t e)
         (step_failed_in (is_source_function_word t) (source_value_of_tree t) e) ≡ Some found
         → value (operand_call_expansion m (expansion t e)) None ≡ Err fault → HasFault

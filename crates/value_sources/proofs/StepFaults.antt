@@ -23,7 +23,7 @@ use Rattle.table_names.specs.ClosedLaws.{ClosedWordLaw}
 use Rattle.table_names.specs.Faults.{name_fault}
 use Rattle.table_names.specs.Kinds.{MeaningKindLaw, TableNamesFitKinds}
 use Rattle.table_names.specs.Meanings.{expansion, word_meaning}
-use Rattle.live_table.specs.Answers.{live_answer_of_worth, live_inverse_worth}
+use Rattle.live_table.specs.Answers.{live_answer_of_value, live_inverse_value}
 use Rattle.live_table.specs.declared.fault.QueryFault.TheVariants.{Value}
 use Rattle.value_sources.specs.declared.failure.FailedStep.{FailedStep}
 use Rattle.value_sources.specs.declared.failure.FailedStep.TheVariants.{Called, Inverted, Raised, Rooted}
@@ -74,7 +74,7 @@ module _ (closing : ClosedWordLaw) (kinds : MeaningKindLaw) (t : EntryTable) (fi
     inverse_fault true h leads is fails =
         let m = function_meaning closing kinds t fits (inverted_eval_word w) leads h in
         operand_fault t found fault e closed within (λ v. Some (Inverted w v)) (λ v. inverse_value_at m.0 v)
-        (λ v i n. found_fault t found fault (Inverted w v) i (ap (λ (k : EvalMeaning). live_inverse_worth k v) m.1 ∙ n))
+        (λ v i n. found_fault t found fault (Inverted w v) i (ap (λ (k : EvalMeaning). live_inverse_value k v) m.1 ∙ n))
         is
         (sym (ap (λ (k : EvalMeaning). value (operand_inverse_expansion k (expansion t e)) None) m.1) ∙ fails)
     inverse_fault false h leads is fails = absurd (leads.has_targets (no_inverse_targets t w h))
@@ -177,7 +177,7 @@ module _ (closing : ClosedWordLaw) (kinds : MeaningKindLaw) (t : EntryTable) (fi
 
 -- an answer that is a value fault comes of no name fault
 failed_step_answer_fault : (o : Option NameFault) (r : ValueOrFault) (fault : ValueFault)
-    → live_answer_of_worth o r ≡ Err (Value fault)
+    → live_answer_of_value o r ≡ Err (Value fault)
     → (o ≡ None) × (r ≡ Err fault)
 failed_step_answer_fault None (Ok v) fault e = cc
 failed_step_answer_fault None (Err f) fault e = let same : f ≡ fault = cc in (refl, ap Err same)

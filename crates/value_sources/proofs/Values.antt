@@ -26,18 +26,18 @@ use Rattle.table_names.specs.Leads.{table_word_targets}
 use Rattle.table_names.specs.Meanings.{ClosedMeaningLaw, entry_meaning, expansion, key_meaning, outcome}
 use Rattle.table_names.specs.Meanings.{targets_meaning, word_meaning}
 use Rattle.table_names.specs.Words.{table_words_of_entry, table_words_of_what}
-use Rattle.live_table.specs.Answers.{live_answer_of_worth, live_table_answer}
+use Rattle.live_table.specs.Answers.{live_answer_of_value, live_table_answer}
 use Rattle.value_sources.specs.Values.{SourceValueLaw, named_source_unit, source_syntax_by, source_syntax_in}
 use Rattle.general_lemmas.proofs.Members.{member_first}
 
-source_worth_of_outcome : (r : ValueOrFault) → r ≡ value_in_outcome (outcome_of_value r)
-source_worth_of_outcome (Ok q) = refl
-source_worth_of_outcome (Err fault) = refl
+source_value_of_outcome : (r : ValueOrFault) → r ≡ value_in_outcome (outcome_of_value r)
+source_value_of_outcome (Ok q) = refl
+source_value_of_outcome (Err fault) = refl
 
 -- the meaning of a key that is an expression
 source_value_of_one_meaning : (t : EntryTable) (n : Key) (x : Expanded) → key_meaning t n ≡ One x
     → value x None ≡ value_in_outcome (outcome t n)
-source_value_of_one_meaning t n x e = source_worth_of_outcome (value x None)
+source_value_of_one_meaning t n x e = source_value_of_outcome (value x None)
     ∙ ap (λ (m : EvalMeaning). value_in_outcome (outcome_of_eval_meaning m)) (sym e)
 
 -- ---- a key with an expression
@@ -53,10 +53,10 @@ module _ (t : EntryTable) (n : Key) (e : Syntax) (d : Entry) (there : entry_at t
       ∙ (ap (entry_meaning (word_meaning t) n.name) there
       ∙ ap (evaluated_meaning (word_meaning t) n.name) is)
 
-  body_value : live_table_answer t e ≡ live_answer_of_worth None (value_in_outcome (outcome t n))
+  body_value : live_table_answer t e ≡ live_answer_of_value None (value_in_outcome (outcome t n))
   body_value =
-      ap (λ o. live_answer_of_worth o (value (expansion t e) None)) closed
-      ∙ ap (live_answer_of_worth None) (source_value_of_one_meaning t n (expansion t e) body_meaning)
+      ap (λ o. live_answer_of_value o (value (expansion t e) None)) closed
+      ∙ ap (live_answer_of_value None) (source_value_of_one_meaning t n (expansion t e) body_meaning)
 
 -- ---- a primitive unit
 -- the word of a unit that has an entry leads to it
@@ -82,12 +82,12 @@ module _ (t : EntryTable) (w : List ℕ) (d : Entry) (there : entry_at t (key ki
       (member_first (key kind.Unit w) (key kind.Unit w) [] refl))
 
   unit_value : (x : Expanded) → evaluated_meaning (word_meaning t) w d.what ≡ One x
-      → live_table_answer t (Word w) ≡ live_answer_of_worth None (value_in_outcome (outcome t (key kind.Unit w)))
+      → live_table_answer t (Word w) ≡ live_answer_of_value None (value_in_outcome (outcome t (key kind.Unit w)))
   unit_value x is =
       let means : key_meaning t (key kind.Unit w) ≡ One x =
       meaning t (key kind.Unit w) unit_closed ∙ (ap (entry_meaning (word_meaning t) w) there ∙ is) in
-      ap (λ o. live_answer_of_worth o (value (eval_meaning_expansion (word_meaning t (plain_eval_word w))) None)) closed
-      ∙ ap (live_answer_of_worth None)
+      ap (λ o. live_answer_of_value o (value (eval_meaning_expansion (word_meaning t (plain_eval_word w))) None)) closed
+      ∙ ap (live_answer_of_value None)
       (ap (λ (m : EvalMeaning). value (eval_meaning_expansion m) None) (word_means ∙ means)
       ∙ source_value_of_one_meaning t (key kind.Unit w) x means)
 
@@ -96,11 +96,11 @@ module _ (closing : ClosedWordLaw) (meaning : ClosedMeaningLaw) (t : EntryTable)
   primitive_value : (k : Kind) (w : List ℕ) (d : Entry) (x : Expanded) (e : Syntax)
       → entry_at t (key k w) ≡ Some d → evaluated_meaning (word_meaning t) w d.what ≡ One x
       → named_source_unit k w ≡ Some e
-      → AreClosedWords t (words_in e) → live_table_answer t e ≡ live_answer_of_worth None
+      → AreClosedWords t (words_in e) → live_table_answer t e ≡ live_answer_of_value None
       (value_in_outcome (outcome t (key k w)))
   primitive_value kind.Unit w d x e there is named closed =
       let same : Word w ≡ e = same_Some (Word w) e named in
-      subst (λ (s : Syntax). live_table_answer t s ≡ live_answer_of_worth None
+      subst (λ (s : Syntax). live_table_answer t s ≡ live_answer_of_value None
       (value_in_outcome (outcome t (key kind.Unit w)))) same
       (unit_value t w d there closing meaning
       (subst (λ (s : Syntax). AreClosedWords t (words_in s)) (sym same) closed) x is)
@@ -110,7 +110,7 @@ module _ (closing : ClosedWordLaw) (meaning : ClosedMeaningLaw) (t : EntryTable)
 
   entry_value : (n : Key) (text : List ℕ) (w : What) (e : Syntax)
       → entry_at t n ≡ Some (record { text = text; what = w }) → source_syntax_in n.kind n.name w ≡ Some e
-      → AreClosedWords t (words_in e) → live_table_answer t e ≡ live_answer_of_worth None
+      → AreClosedWords t (words_in e) → live_table_answer t e ≡ live_answer_of_value None
       (value_in_outcome (outcome t n))
   entry_value n text what.Primitive e there is closed =
       primitive_value n.kind n.name _ (Primitive n.name) e there refl is closed
@@ -124,7 +124,7 @@ module _ (closing : ClosedWordLaw) (meaning : ClosedMeaningLaw) (t : EntryTable)
   entry_value n text (what.ListOf parts) e there is closed = cc
 
   given_value : (n : Key) (o : Option Entry) (e : Syntax) → entry_at t n ≡ o → source_syntax_by n.kind n.name o ≡ Some e
-      → AreClosedWords t (words_in e) → live_table_answer t e ≡ live_answer_of_worth None
+      → AreClosedWords t (words_in e) → live_table_answer t e ≡ live_answer_of_value None
       (value_in_outcome (outcome t n))
   given_value n None e there is closed = cc
   given_value n (Some d) e there is closed = entry_value n d.text d.what e there is closed

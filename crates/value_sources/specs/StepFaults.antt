@@ -11,7 +11,7 @@ use Rattle.tree_eval.specs.Steps.{ValueOrFault, operand_step_value, root_value, 
 use Rattle.tree_eval.specs.Value.{value_at}
 use Rattle.table_names.specs.Kinds.{TableNamesFitKinds}
 use Rattle.table_names.specs.Meanings.{word_meaning}
-use Rattle.live_table.specs.Answers.{live_inverse_worth, live_table_answer}
+use Rattle.live_table.specs.Answers.{live_inverse_value, live_table_answer}
 use Rattle.live_table.specs.declared.fault.QueryFault.TheVariants.{Value}
 use Rattle.value_sources.specs.declared.failure.FailedStep.{FailedStep}
 use Rattle.value_sources.specs.declared.failure.FailedStep.TheVariants.{Called, Inverted, Joined, Raised, Rooted}
@@ -29,7 +29,7 @@ failed_step_result table (Joined step x y) = operand_step_value step x y
 failed_step_result table (Raised x y) = value_of_quantity_step (quantity_power x y)
 failed_step_result table (Rooted kind x) = root_value kind x
 failed_step_result table (Called w x) = failed_step_call_at (word_meaning table (called_eval_word w)) x
-failed_step_result table (Inverted w x) = live_inverse_worth (word_meaning table (inverted_eval_word w)) x
+failed_step_result table (Inverted w x) = live_inverse_value (word_meaning table (inverted_eval_word w)) x
 
 -- law: if an expression has a value fault and a failed step, that fault is the fault of the step. The table of each
 -- deck fits kinds

@@ -11,7 +11,7 @@ use Rattle.def_entry.specs.Tables.{EntryTable, entry_at}
 use Rattle.tree_eval.specs.Outcomes.{value_in_outcome}
 use Rattle.table_names.specs.ClosedKeys.{AreClosedWords}
 use Rattle.table_names.specs.Meanings.{outcome}
-use Rattle.live_table.specs.Answers.{live_answer_of_worth, live_table_answer}
+use Rattle.live_table.specs.Answers.{live_answer_of_value, live_table_answer}
 
 -- the name of a unit as an expression
 abbrev pub named_source_unit : Kind → List ℕ → Option Syntax
@@ -43,4 +43,4 @@ source_value_syntax table n = source_syntax_by n.kind n.name (entry_at table n)
 abbrev pub SourceValueLaw : Type 0
 SourceValueLaw = (table : EntryTable) (n : Key) (e : Syntax) → source_value_syntax table n ≡ Some e
     → AreClosedWords table (words_in e)
-    → live_table_answer table e ≡ live_answer_of_worth None (value_in_outcome (outcome table n))
+    → live_table_answer table e ≡ live_answer_of_value None (value_in_outcome (outcome table n))

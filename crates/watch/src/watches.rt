@@ -120,7 +120,7 @@ impl Watches {
         steps: &mut Steps<L>,
     ) -> Result<Text, AllocError>
         requires { AreReplyOptionsPrintable options.now }
-        ensures told { IfOk result (λ text.
+        ensures reported_changes { IfOk result (λ text.
             text ≡ watch_report (map (spec.change_of (tables.table_of_deck table.old.deck) options.now) self.old)) }
         ensures edit { (before : EntryTable) → spec.AreCurrent before options.now self.old → IfOk result (λ text. text
             ≡ report_by_edit before (tables.table_of_deck table.old.deck) options.now

@@ -9,7 +9,8 @@ use Rattle.tree_eval.specs.declared.direction.Direction.TheVariants.{Forward, In
 use Rattle.tree_eval.proofs.Alone.{alone_gives, alone_within, member_gives}
 use Rattle.tree_eval.proofs.Arms.{base_lighter, base_stands, chain_ends, chain_gives, chain_lighter, chain_stands}
 use Rattle.tree_eval.proofs.Arms.{exponent_lighter, exponent_stands, group_part, negate_part, power_pair, root_part}
-use Rattle.tree_eval.proofs.Chains.{begins, end_place, end_worth, first_fault, first_lighter, first_stand, run_goes_on}
+use Rattle.tree_eval.proofs.Chains.{begins, end_place, value_at_end, first_fault, first_lighter, first_stand}
+use Rattle.tree_eval.proofs.Chains.{run_goes_on}
 use Rattle.tree_eval.proofs.Chains.{member_fault, member_lighter, member_stand}
 use Rattle.tree_eval.proofs.MemberChains.{juxtaposed_is, product_is, sum_is}
 use Rattle.tree_eval.proofs.Multiples.{multiple_gives, multiple_place, multiple_usable, multiple_within}
@@ -24,10 +25,11 @@ pub scope::Scope::evaluate-word-requires : goal.scope::Scope::evaluate-word-requ
 scope::Scope::evaluate-word-requires g t c =
     alone_within _ _ (ap syntax c.in-Word.is ∙ c.view_law.ensures.word c.in-Word.field-0) c.requires
 
-pub scope::Scope::evaluate-returns-in-Word-clause-worth : goal.scope::Scope::evaluate-returns-in-Word-clause-worth
-scope::Scope::evaluate-returns-in-Word-clause-worth g t c =
+pub scope::Scope::evaluate-returns-in-Word-clause-value_or_fault
+    : goal.scope::Scope::evaluate-returns-in-Word-clause-value_or_fault
+scope::Scope::evaluate-returns-in-Word-clause-value_or_fault g t c =
     alone_gives _ _ (ap syntax c.in-Word.is ∙ c.view_law.ensures.word c.in-Word.field-0) c.requires
-    (g.E.Env.means c.args.self.now.env.now) _ _ _ c.word.ensures.worth
+    (g.E.Env.means c.args.self.now.env.now) _ _ _ c.word.ensures.value_or_fault
 
 pub scope::Scope::evaluate-evaluate_use-requires : goal.scope::Scope::evaluate-evaluate_use-requires
 scope::Scope::evaluate-evaluate_use-requires g t c κs within =
@@ -38,13 +40,14 @@ scope::Scope::evaluate-evaluate_use-requires g t c κs within =
     c.requires (g.E.Env.means c.args.self.now.env.now) in
     search (rules, arith, part.within, part.lighter, part.stand)
 
-pub scope::Scope::evaluate-returns-in-Call-clause-worth : goal.scope::Scope::evaluate-returns-in-Call-clause-worth
-scope::Scope::evaluate-returns-in-Call-clause-worth g t c =
+pub scope::Scope::evaluate-returns-in-Call-clause-value_or_fault
+    : goal.scope::Scope::evaluate-returns-in-Call-clause-value_or_fault
+scope::Scope::evaluate-returns-in-Call-clause-value_or_fault g t c =
     use_gives Forward _ _ _ _
     (ap syntax c.in-Call.is
     ∙ (c.view_law.ensures.call c.in-Call.field-0 c.in-Call.operand
     ∙ ap (λ y. tree.Call c.in-Call.field-0.value (syntax y)) (sym c.deref-in-Call.ensures)))
-    c.requires (g.E.Env.means c.args.self.now.env.now) _ _ _ c.evaluate_use.ensures.worth
+    c.requires (g.E.Env.means c.args.self.now.env.now) _ _ _ c.evaluate_use.ensures.value_or_fault
 
 pub scope::Scope::evaluate-evaluate_use-requires-in-Inverse
     : goal.scope::Scope::evaluate-evaluate_use-requires-in-Inverse
@@ -56,13 +59,14 @@ scope::Scope::evaluate-evaluate_use-requires-in-Inverse g t c κs within =
     c.requires (g.E.Env.means c.args.self.now.env.now) in
     search (rules, arith, part.within, part.lighter, part.stand)
 
-pub scope::Scope::evaluate-returns-in-Inverse-clause-worth : goal.scope::Scope::evaluate-returns-in-Inverse-clause-worth
-scope::Scope::evaluate-returns-in-Inverse-clause-worth g t c =
+pub scope::Scope::evaluate-returns-in-Inverse-clause-value_or_fault
+    : goal.scope::Scope::evaluate-returns-in-Inverse-clause-value_or_fault
+scope::Scope::evaluate-returns-in-Inverse-clause-value_or_fault g t c =
     use_gives Inverse _ _ _ _
     (ap syntax c.in-Inverse.is
     ∙ (c.view_law.ensures.inverse c.in-Inverse.field-0 c.in-Inverse.operand
     ∙ ap (λ y. tree.Inverse c.in-Inverse.field-0.value (syntax y)) (sym c.deref-in-Inverse.ensures)))
-    c.requires (g.E.Env.means c.args.self.now.env.now) _ _ _ c.evaluate_use-in-Inverse.ensures.worth
+    c.requires (g.E.Env.means c.args.self.now.env.now) _ _ _ c.evaluate_use-in-Inverse.ensures.value_or_fault
 
 pub scope::Scope::evaluate-evaluate-requires : goal.scope::Scope::evaluate-evaluate-requires
 scope::Scope::evaluate-evaluate-requires g t c κs within =
@@ -118,12 +122,12 @@ scope::Scope::evaluate-evaluate_juxtaposition-requires g t c κs within =
     (ap syntax c.in-Juxtaposed.is ∙ c.view_law.ensures.juxtaposition c.in-Juxtaposed.trees) in
     search (rules, arith, chain_lighter is, chain_stands is _ _ c.requires)
 
-pub scope::Scope::evaluate-returns-in-Juxtaposed-clause-worth
-    : goal.scope::Scope::evaluate-returns-in-Juxtaposed-clause-worth
-scope::Scope::evaluate-returns-in-Juxtaposed-clause-worth g t c =
+pub scope::Scope::evaluate-returns-in-Juxtaposed-clause-value_or_fault
+    : goal.scope::Scope::evaluate-returns-in-Juxtaposed-clause-value_or_fault
+scope::Scope::evaluate-returns-in-Juxtaposed-clause-value_or_fault g t c =
     let is = juxtaposed_is (g.E.Env.means c.args.self.now.env.now) {e = syntax c.args.tree.now} _
     (ap syntax c.in-Juxtaposed.is ∙ c.view_law.ensures.juxtaposition c.in-Juxtaposed.trees) in
-    chain_gives is _ _ _ c.evaluate_juxtaposition.ensures.worth
+    chain_gives is _ _ _ c.evaluate_juxtaposition.ensures.value_or_fault
 
 pub scope::Scope::evaluate-returns-in-Juxtaposed-clause-place
     : goal.scope::Scope::evaluate-returns-in-Juxtaposed-clause-place
@@ -138,11 +142,12 @@ scope::Scope::evaluate-chain-requires g t c κs within =
     (ap syntax c.in-Product.is ∙ c.view_law.ensures.product c.in-Product.factors) in
     search (rules, arith, chain_lighter is, chain_stands is _ _ c.requires)
 
-pub scope::Scope::evaluate-returns-in-Product-clause-worth : goal.scope::Scope::evaluate-returns-in-Product-clause-worth
-scope::Scope::evaluate-returns-in-Product-clause-worth g t c =
+pub scope::Scope::evaluate-returns-in-Product-clause-value_or_fault
+    : goal.scope::Scope::evaluate-returns-in-Product-clause-value_or_fault
+scope::Scope::evaluate-returns-in-Product-clause-value_or_fault g t c =
     let is = product_is (g.E.Env.means c.args.self.now.env.now) {e = syntax c.args.tree.now} _
     (ap syntax c.in-Product.is ∙ c.view_law.ensures.product c.in-Product.factors) in
-    chain_gives is _ _ _ c.chain.ensures.worth
+    chain_gives is _ _ _ c.chain.ensures.value_or_fault
 
 pub scope::Scope::evaluate-returns-in-Product-clause-place : goal.scope::Scope::evaluate-returns-in-Product-clause-place
 scope::Scope::evaluate-returns-in-Product-clause-place g t c =
@@ -156,11 +161,12 @@ scope::Scope::evaluate-chain-requires-in-Sum g t c κs within =
     (ap syntax c.in-Sum.is ∙ c.view_law.ensures.sum c.in-Sum.terms) in
     search (rules, arith, chain_lighter is, chain_stands is _ _ c.requires)
 
-pub scope::Scope::evaluate-returns-in-Sum-clause-worth : goal.scope::Scope::evaluate-returns-in-Sum-clause-worth
-scope::Scope::evaluate-returns-in-Sum-clause-worth g t c =
+pub scope::Scope::evaluate-returns-in-Sum-clause-value_or_fault
+    : goal.scope::Scope::evaluate-returns-in-Sum-clause-value_or_fault
+scope::Scope::evaluate-returns-in-Sum-clause-value_or_fault g t c =
     let is = sum_is (g.E.Env.means c.args.self.now.env.now) {e = syntax c.args.tree.now} _
     (ap syntax c.in-Sum.is ∙ c.view_law.ensures.sum c.in-Sum.terms) in
-    chain_gives is _ _ _ c.chain-in-Sum.ensures.worth
+    chain_gives is _ _ _ c.chain-in-Sum.ensures.value_or_fault
 
 pub scope::Scope::evaluate-returns-in-Sum-clause-place : goal.scope::Scope::evaluate-returns-in-Sum-clause-place
 scope::Scope::evaluate-returns-in-Sum-clause-place g t c =
@@ -170,50 +176,53 @@ scope::Scope::evaluate-returns-in-Sum-clause-place g t c =
 
 pub scope::Scope::evaluate_use-put_word-requires : goal.scope::Scope::evaluate_use-put_word-requires
 scope::Scope::evaluate_use-put_word-requires g t c =
-    use_is_usable _ _ c.requires.within _ _ _ _ c.in_ok-meaning.ensures.told
+    use_is_usable _ _ c.requires.within _ _ _ _ c.in_ok-meaning.ensures.reports
 
 pub scope::Scope::evaluate_use-evaluate-requires : goal.scope::Scope::evaluate_use-evaluate-requires
 scope::Scope::evaluate_use-evaluate-requires g t c κs within =
-    let lighter = operand_lighter _ _ c.requires.within _ _ _ _ c.in_ok-meaning.ensures.told c.args.direction
+    let lighter = operand_lighter _ _ c.requires.within _ _ _ _ c.in_ok-meaning.ensures.reports c.args.direction
     (expand (g.E.Env.means c.args.self.now.env.now) (syntax c.args.operand.now)) in
     search (rules, arith, lighter, operand_stands _ _ _ _ c.requires.stand c.in_ok-meaning.ensures.place)
 
-pub scope::Scope::evaluate_use-with_worth-requires : goal.scope::Scope::evaluate_use-with_worth-requires
-scope::Scope::evaluate_use-with_worth-requires g t c κs within =
-    let lighter = operand_lighter _ _ c.requires.within _ _ _ _ c.in_ok-meaning.ensures.told c.args.direction
+pub scope::Scope::evaluate_use-join_member-requires : goal.scope::Scope::evaluate_use-join_member-requires
+scope::Scope::evaluate_use-join_member-requires g t c κs within =
+    let lighter = operand_lighter _ _ c.requires.within _ _ _ _ c.in_ok-meaning.ensures.reports c.args.direction
     (expand (g.E.Env.means c.args.self.now.env.now) (syntax c.args.operand.now)) in
     search (rules, arith, lighter, operand_stands _ _ _ _ c.requires.stand c.in_ok-meaning.ensures.place)
 
 pub scope::Scope::evaluate_use-put_taken-requires : goal.scope::Scope::evaluate_use-put_taken-requires
 scope::Scope::evaluate_use-put_taken-requires g t c κs within =
-    let lighter = function_lighter _ _ c.requires.within _ _ _ _ c.in_ok-meaning.ensures.told c.args.direction
+    let lighter = function_lighter _ _ c.requires.within _ _ _ _ c.in_ok-meaning.ensures.reports c.args.direction
     (expand (g.E.Env.means c.args.self.now.env.now) (syntax c.args.operand.now)) c.in-Function.is in
-    let has = use_has_function _ _ c.requires.within _ _ _ _ c.in_ok-meaning.ensures.told c.in-Function.is in
+    let has = use_has_function _ _ c.requires.within _ _ _ _ c.in_ok-meaning.ensures.reports c.in-Function.is in
     search (rules, arith, lighter, has)
 
-pub scope::Scope::evaluate_use-returns-in_err-put_word-clause-worth
-    : goal.scope::Scope::evaluate_use-returns-in_err-put_word-clause-worth
-scope::Scope::evaluate_use-returns-in_err-put_word-clause-worth g t c u at =
+pub scope::Scope::evaluate_use-returns-in_err-put_word-clause-value_or_fault
+    : goal.scope::Scope::evaluate_use-returns-in_err-put_word-clause-value_or_fault
+scope::Scope::evaluate_use-returns-in_err-put_word-clause-value_or_fault g t c u at =
     let p = err_from_is_err_and c.from_residual-in_err-put_word.result c.from_residual-in_err-put_word.ensures.1 in
-    rw (p.1, p.2) (word_fault _ _ _ _ _ _ (c.in_ok-meaning.ensures.told u at) c.in_default.not-Function _
+    rw (p.1, p.2) (word_fault _ _ _ _ _ _ (c.in_ok-meaning.ensures.reports u at) c.in_default.not-Function _
     c.in_err-put_word.ensures)
 
-pub scope::Scope::evaluate_use-returns-clause-worth : goal.scope::Scope::evaluate_use-returns-clause-worth
-scope::Scope::evaluate_use-returns-clause-worth g t c u at =
-    product_gives _ _ _ _ _ _ (c.in_ok-meaning.ensures.told u at) c.in_default.not-Function c.in_ok-put_word.ensures _ _
-    c.with_worth.ensures.worth
+pub scope::Scope::evaluate_use-returns-clause-value_or_fault
+    : goal.scope::Scope::evaluate_use-returns-clause-value_or_fault
+scope::Scope::evaluate_use-returns-clause-value_or_fault g t c u at =
+    product_gives _ _ _ _ _ _ (c.in_ok-meaning.ensures.reports u at) c.in_default.not-Function c.in_ok-put_word.ensures
+    _ _
+    c.join_member.ensures.value_or_fault
 
-pub scope::Scope::evaluate_use-returns-in_err-evaluate-clause-worth
-    : goal.scope::Scope::evaluate_use-returns-in_err-evaluate-clause-worth
-scope::Scope::evaluate_use-returns-in_err-evaluate-clause-worth g t c u at =
+pub scope::Scope::evaluate_use-returns-in_err-evaluate-clause-value_or_fault
+    : goal.scope::Scope::evaluate_use-returns-in_err-evaluate-clause-value_or_fault
+scope::Scope::evaluate_use-returns-in_err-evaluate-clause-value_or_fault g t c u at =
     let p = err_from_is_err_and c.from_residual-in_err-evaluate.result c.from_residual-in_err-evaluate.ensures.1 in
-    rw (p.1, p.2) (operand_fault _ _ _ _ _ _ (c.in_ok-meaning.ensures.told u at) c.in-Function.is _
-    c.in_err-evaluate.ensures.worth)
+    rw (p.1, p.2) (operand_fault _ _ _ _ _ _ (c.in_ok-meaning.ensures.reports u at) c.in-Function.is _
+    c.in_err-evaluate.ensures.value_or_fault)
 
-pub scope::Scope::evaluate_use-returns-in-Function-clause-worth
-    : goal.scope::Scope::evaluate_use-returns-in-Function-clause-worth
-scope::Scope::evaluate_use-returns-in-Function-clause-worth g t c u at =
-    taken_give _ _ _ _ _ _ (c.in_ok-meaning.ensures.told u at) c.in-Function.is c.in_ok-evaluate.ensures.worth _ _
+pub scope::Scope::evaluate_use-returns-in-Function-clause-value_or_fault
+    : goal.scope::Scope::evaluate_use-returns-in-Function-clause-value_or_fault
+scope::Scope::evaluate_use-returns-in-Function-clause-value_or_fault g t c u at =
+    taken_give _ _ _ _ _ _ (c.in_ok-meaning.ensures.reports u at) c.in-Function.is
+    c.in_ok-evaluate.ensures.value_or_fault _ _
     c.put_taken.ensures
 
 pub scope::Scope::evaluate_juxtaposition-next_meaning-requires
@@ -225,13 +234,13 @@ pub scope::Scope::evaluate_juxtaposition-put_multiple-requires
     : goal.scope::Scope::evaluate_juxtaposition-put_multiple-requires
 scope::Scope::evaluate_juxtaposition-put_multiple-requires g t c =
     multiple_usable _ c.in-Some.is c.factor_of_word.ensures _ _ c.requires _ _ _ _
-    c.in_ok-meaning-in-Some.ensures.told
+    c.in_ok-meaning-in-Some.ensures.reports
 
-pub scope::Scope::evaluate_juxtaposition-returns-in_ok-meaning-in-Some-clause-worth
-    : goal.scope::Scope::evaluate_juxtaposition-returns-in_ok-meaning-in-Some-clause-worth
-scope::Scope::evaluate_juxtaposition-returns-in_ok-meaning-in-Some-clause-worth g t c =
+pub scope::Scope::evaluate_juxtaposition-returns-in_ok-meaning-in-Some-clause-value_or_fault
+    : goal.scope::Scope::evaluate_juxtaposition-returns-in_ok-meaning-in-Some-clause-value_or_fault
+scope::Scope::evaluate_juxtaposition-returns-in_ok-meaning-in-Some-clause-value_or_fault g t c =
     multiple_gives _ c.in-Some.is c.factor_of_word.ensures _ _ c.requires _ _ _ _
-    c.in_ok-meaning-in-Some.ensures.told _ _ _ c.put_multiple.ensures
+    c.in_ok-meaning-in-Some.ensures.reports _ _ _ c.put_multiple.ensures
 
 pub scope::Scope::evaluate_juxtaposition-returns-in_ok-meaning-in-Some-clause-place
     : goal.scope::Scope::evaluate_juxtaposition-returns-in_ok-meaning-in-Some-clause-place
@@ -244,37 +253,38 @@ scope::Scope::chain-evaluate-requires g t c κs within =
     let lighter = first_lighter _ c.get.ensures (g.E.Env.means c.args.self.now.env.now) in
     search (rules, arith, lighter, first_stand _ c.get.ensures _ _ c.requires)
 
-pub scope::Scope::chain-returns-in_err-evaluate-clause-worth
-    : goal.scope::Scope::chain-returns-in_err-evaluate-clause-worth
-scope::Scope::chain-returns-in_err-evaluate-clause-worth g t c =
+pub scope::Scope::chain-returns-in_err-evaluate-clause-value_or_fault
+    : goal.scope::Scope::chain-returns-in_err-evaluate-clause-value_or_fault
+scope::Scope::chain-returns-in_err-evaluate-clause-value_or_fault g t c =
     let p = err_from_is_err_and c.from_residual.result c.from_residual.ensures.1 in
     rw (p.1, p.2) (first_fault _ c.get.ensures (g.E.Env.means c.args.self.now.env.now)
-    (option_copied c.args.self.now.arg) _ c.in_err-evaluate.ensures.worth)
+    (option_copied c.args.self.now.arg) _ c.in_err-evaluate.ensures.value_or_fault)
 
 pub scope::Scope::chain-loop-i-init : goal.scope::Scope::chain-loop-i-init
 scope::Scope::chain-loop-i-init g t c =
-    begins _ c.get.ensures _ _ c.requires c.in_ok-evaluate.ensures.worth c.in_ok-evaluate.ensures.place
+    begins _ c.get.ensures _ _ c.requires c.in_ok-evaluate.ensures.value_or_fault c.in_ok-evaluate.ensures.place
 
 pub scope::Scope::chain-with_member-requires : goal.scope::Scope::chain-with_member-requires
 scope::Scope::chain-with_member-requires g t c κs within =
     let lighter = member_lighter c.loop-i.invariant c.get-in-loop-i.ensures in
     search (rules, arith, lighter, member_stand c.loop-i.invariant c.get-in-loop-i.ensures)
 
-pub scope::Scope::chain-returns-in_err-with_member-clause-worth
-    : goal.scope::Scope::chain-returns-in_err-with_member-clause-worth
-scope::Scope::chain-returns-in_err-with_member-clause-worth g t c =
+pub scope::Scope::chain-returns-in_err-with_member-clause-value_or_fault
+    : goal.scope::Scope::chain-returns-in_err-with_member-clause-value_or_fault
+scope::Scope::chain-returns-in_err-with_member-clause-value_or_fault g t c =
     let p = err_from_is_err_and c.from_residual-in_err-with_member.result c.from_residual-in_err-with_member.ensures.1
     in
-    rw (p.1, p.2) (member_fault c.loop-i.invariant c.get-in-loop-i.ensures _ c.in_err-with_member.ensures.worth)
+    rw (p.1, p.2) (member_fault c.loop-i.invariant c.get-in-loop-i.ensures _
+    c.in_err-with_member.ensures.value_or_fault)
 
 pub scope::Scope::chain-loop-i-preserved : goal.scope::Scope::chain-loop-i-preserved
 scope::Scope::chain-loop-i-preserved g t c =
-    run_goes_on c.loop-i.invariant c.get-in-loop-i.ensures c.in_ok-with_member.ensures.worth
+    run_goes_on c.loop-i.invariant c.get-in-loop-i.ensures c.in_ok-with_member.ensures.value_or_fault
     c.in_ok-with_member.ensures.place
 
-pub scope::Scope::chain-returns-clause-worth : goal.scope::Scope::chain-returns-clause-worth
-scope::Scope::chain-returns-clause-worth g t c =
-    end_worth c.loop-i.invariant (omega (arith, c.len-i-end.ensures))
+pub scope::Scope::chain-returns-clause-value_or_fault : goal.scope::Scope::chain-returns-clause-value_or_fault
+scope::Scope::chain-returns-clause-value_or_fault g t c =
+    value_at_end c.loop-i.invariant (omega (arith, c.len-i-end.ensures))
 
 pub scope::Scope::chain-returns-clause-place : goal.scope::Scope::chain-returns-clause-place
 scope::Scope::chain-returns-clause-place g t c =
@@ -284,10 +294,11 @@ pub scope::Scope::with_member-with_word-requires : goal.scope::Scope::with_membe
 scope::Scope::with_member-with_word-requires g t c =
     alone_within _ _ (ap syntax c.in-Word.is ∙ c.view_law.ensures.word c.in-Word.field-0) c.requires
 
-pub scope::Scope::with_member-returns-in-Word-clause-worth : goal.scope::Scope::with_member-returns-in-Word-clause-worth
-scope::Scope::with_member-returns-in-Word-clause-worth g t c =
+pub scope::Scope::with_member-returns-in-Word-clause-value_or_fault
+    : goal.scope::Scope::with_member-returns-in-Word-clause-value_or_fault
+scope::Scope::with_member-returns-in-Word-clause-value_or_fault g t c =
     member_gives _ _ (ap syntax c.in-Word.is ∙ c.view_law.ensures.word c.in-Word.field-0) c.requires
-    (g.E.Env.means c.args.self.now.env.now) _ _ _ _ _ c.with_word.ensures.worth
+    (g.E.Env.means c.args.self.now.env.now) _ _ _ _ _ c.with_word.ensures.value_or_fault
 
 pub function::take-target_of-requires-clause-word : goal.function::take-target_of-requires-clause-word
 function::take-target_of-requires-clause-word g t c =

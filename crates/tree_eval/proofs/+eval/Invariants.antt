@@ -48,8 +48,8 @@ abbrev pub decreases-scope::Scope::with_member : goal.decreases-scope::Scope::wi
 decreases-scope::Scope::with_member g l =
     8 * weight (expand (g.E.Env.means l.self.now.env.now) (syntax l.operand.tree.now)) + 4
 
-abbrev pub decreases-scope::Scope::with_worth : goal.decreases-scope::Scope::with_worth
-decreases-scope::Scope::with_worth g l =
+abbrev pub decreases-scope::Scope::join_member : goal.decreases-scope::Scope::join_member
+decreases-scope::Scope::join_member g l =
     8 * weight (expand (g.E.Env.means l.self.now.env.now) (syntax l.operand.tree.now)) + 3
 
 abbrev pub decreases-function::take : goal.decreases-function::take

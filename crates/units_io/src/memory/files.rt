@@ -98,7 +98,7 @@ impl Files for MemFiles {
     ghost is_fetch = { λ _ _ _ _. ⊤ };
 
     fn fetch(&mut self, alloc: Global, name: &[u8]) -> Result<Text, FetchFault>
-        ensures told { IsFileFetched self.old.files name.now result }
+        ensures if_known { IsFileFetched self.old.files name.now result }
         ensures within { IfOk result (λ text. length text ≤ longest_file) }
         ensures kept { self.new.files ≡ self.old.files }
         ensures cause { FetchFailsWithCause self.old.faults self.new.faults result }
@@ -123,7 +123,7 @@ impl Files for MemFiles {
 
     fn store(&mut self, alloc: Global, name: &[u8], bytes: &[u8]) -> Result<(), StoreFault>
         requires { length bytes.now ≤ longest_file }
-        ensures told { IsFileStored (Some self.old.files) (Some self.new.files)
+        ensures if_known { IsFileStored (Some self.old.files) (Some self.new.files)
             name.now bytes.now result }
         ensures kept { OnErr result (self.new.files ≡ self.old.files) }
         ensures cause { StoreHasCause self.old.store_faults self.new.store_faults result }

@@ -17,8 +17,8 @@ pub returns-in-Err-clause-read : goal.returns-in-Err-clause-read
 returns-in-Err-clause-read g c = λ is. session_count_rose_earlier _ _ _ c.loop-src.invariant.earlier
     c.in-Err.ensures.cause.failure_counted
 
-pub returns-then-n-eq0-clause-told : goal.returns-then-n-eq0-clause-told
-returns-then-n-eq0-clause-told g c = λ input q.
+pub returns-then-n-eq0-clause-if_known : goal.returns-then-n-eq0-clause-if_known
+returns-then-n-eq0-clause-if_known g c = λ input q.
     let p = c.loop-src.invariant.stands input q in
     let lost = known_session_input_is_lost _ _ p.0 (take c.in-Ok.n c.take.new.buf) p.2 c.in-Ok.ensures.bytes in
     let none = no_session_input_is_left _ p.0 p.2 (c.in-Ok.ensures.end c.if-n-eq0.true) in

@@ -7,13 +7,13 @@ use Rattle.reply.specs.Replies.{conversion_as_reply, conversion_result_as_reply,
 use Rattle.reply.specs.declared.failure.Failure.{Failure}
 use Rattle.reply.specs.declared.form.Form.{Form}
 use Rattle.reply.specs.declared.reply.Reply.{Reply}
-use Rattle.reply.proofs.ToldFaults.{IsTold, conversion-between-has-memory}
+use Rattle.reply.proofs.ReportableFaults.{IsReportableResult, conversion-between-has-memory}
 use Rattle.reply.proofs.reply.comparison_reply.Goals as goal
 
-pub refusal-requires-clause-told : goal.refusal-requires-clause-told
-refusal-requires-clause-told c =
+pub refusal-requires-clause-reportable : goal.refusal-requires-clause-reportable
+refusal-requires-clause-reportable c =
     ap is_reply_fault_reportable c.in-Err-Fault.fault-is
-    ∙ subst IsTold
+    ∙ subst IsReportableResult
     (subst (λ (x : Failure).
     IsInquiryWithoutQueriesAnswered inquiry_identity
     (conversion_between c.args.question.now.options.now.strict c.args.x c.args.y.now) (Err x))

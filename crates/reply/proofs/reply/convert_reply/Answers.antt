@@ -7,14 +7,15 @@ use Rattle.reply.specs.Conversions.{conversion}
 use Rattle.reply.specs.Faults.{is_reply_fault_reportable}
 use Rattle.reply.specs.Grants.{IsConversionReply}
 use Rattle.reply.specs.Replies.{conversion_reply, refusal_reply}
-use Rattle.reply.proofs.ReplyResults.{conversion-cut, conversion-fault-told, conversion-granted, conversion-made}
+use Rattle.reply.proofs.ReplyResults.{conversion-cut, conversion-fault-reportable, conversion-granted, conversion-made}
 use Rattle.reply.proofs.ReplyResults.{conversion-refused, reply-holds}
 use Rattle.reply.proofs.reply.convert_reply.Goals as goal
 
-pub refusal-requires-clause-told : goal.refusal-requires-clause-told
-refusal-requires-clause-told g c =
+pub refusal-requires-clause-reportable : goal.refusal-requires-clause-reportable
+refusal-requires-clause-reportable g c =
     ap is_reply_fault_reportable c.in-Err-Fault.fault-is
-    ∙ conversion-fault-told c.args.options.now c.args.from.now c.args.to.now c.trim-from.result.now c.trim-to.result.now
+    ∙ conversion-fault-reportable c.args.options.now c.args.from.now c.args.to.now c.trim-from.result.now
+    c.trim-to.result.now
     c.trim-from.ensures
     c.trim-to.ensures c.args.table.now c.convert.new.table c.args.steps.now c.convert.new.steps
     c.parse_memory_law.ensures

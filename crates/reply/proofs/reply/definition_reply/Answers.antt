@@ -3,20 +3,22 @@ use Rattle.deck.specs.Tables.{table_of_deck}
 use Rattle.reply.specs.declared.failure.Failure.{Failure}
 use Rattle.reply.specs.declared.reply.Reply.{Reply}
 use Rattle.reply.specs.Calls.{IsInquiryAnswered, inquiry_identity}
-use Rattle.reply.specs.Inquiries.{text_worth}
+use Rattle.reply.specs.Inquiries.{value_of_text}
 use Rattle.reply.specs.Faults.{is_reply_fault_reportable}
 use Rattle.reply.specs.Replies.{refusal_reply}
-use Rattle.reply.proofs.ReplyResults.{definition-granted, definition-refused, value-cut, value-fault-told, value-made}
+use Rattle.reply.proofs.ReplyResults.{definition-granted, definition-refused, value-cut, value-fault-reportable}
+use Rattle.reply.proofs.ReplyResults.{value-made}
 use Rattle.reply.proofs.reply.definition_reply.Goals as goal
 
-pub refusal-requires-clause-told : goal.refusal-requires-clause-told
-refusal-requires-clause-told g c =
+pub refusal-requires-clause-reportable : goal.refusal-requires-clause-reportable
+refusal-requires-clause-reportable g c =
     ap is_reply_fault_reportable c.in-Err-Fault.fault-is
-    ∙ value-fault-told c.args.options.now c.args.from.now c.trim-from.result.now c.trim-from.ensures c.args.table.now
+    ∙ value-fault-reportable c.args.options.now c.args.from.now c.trim-from.result.now c.trim-from.ensures
+    c.args.table.now
     c.evaluate_text.new.table
     c.args.steps.now c.evaluate_text.new.steps c.parse_memory_law.ensures c.in-Err-Fault.fault
     (subst (λ (x : Failure). IsInquiryAnswered inquiry_identity
-    (text_worth (table_of_deck c.args.table.now.deck) c.trim-from.result.now) (Err x)
+    (value_of_text (table_of_deck c.args.table.now.deck) c.trim-from.result.now) (Err x)
     c.args.table.now c.evaluate_text.new.table c.args.steps.now c.evaluate_text.new.steps) c.in-Err-Fault.field-0-is
     c.in-Err-Fault.ensures.inquired)
 
@@ -45,7 +47,7 @@ returns-in-Err-Fault-clause-reply g c =
     c.evaluate_text.new.table
     c.args.steps.now c.evaluate_text.new.steps c.of-form.result c.of-form.ensures.is c.in-Err-Fault.fault
     (subst (λ (x : Failure). IsInquiryAnswered inquiry_identity
-    (text_worth (table_of_deck c.args.table.now.deck) c.trim-from.result.now) (Err x)
+    (value_of_text (table_of_deck c.args.table.now.deck) c.trim-from.result.now) (Err x)
     c.args.table.now c.evaluate_text.new.table c.args.steps.now c.evaluate_text.new.steps) c.in-Err-Fault.field-0-is
     c.in-Err-Fault.ensures.inquired))
     c.refusal.ensures
@@ -56,7 +58,7 @@ returns-in-Err-Fault-clause-queries g c =
     c.evaluate_text.new.table
     c.args.steps.now c.evaluate_text.new.steps c.refusal.result c.evaluate_text.ensures.deck
     (subst (λ (x : Failure). IsInquiryAnswered inquiry_identity
-    (text_worth (table_of_deck c.args.table.now.deck) c.trim-from.result.now) (Err x)
+    (value_of_text (table_of_deck c.args.table.now.deck) c.trim-from.result.now) (Err x)
     c.args.table.now c.evaluate_text.new.table c.args.steps.now c.evaluate_text.new.steps) c.in-Err-Fault.field-0-is
     c.in-Err-Fault.ensures.inquired).1
 
@@ -66,7 +68,7 @@ returns-in-Err-OutOfMemory-clause-queries g c =
     c.evaluate_text.new.table
     c.args.steps.now c.evaluate_text.new.steps
     (subst (λ (x : Failure). IsInquiryAnswered inquiry_identity
-    (text_worth (table_of_deck c.args.table.now.deck) c.trim-from.result.now) (Err x)
+    (value_of_text (table_of_deck c.args.table.now.deck) c.trim-from.result.now) (Err x)
     c.args.table.now c.evaluate_text.new.table c.args.steps.now c.evaluate_text.new.steps)
     c.in-Err-OutOfMemory.field-0-is
     c.in-Err-OutOfMemory.ensures.inquired)

@@ -6,19 +6,20 @@ use Rattle.reply.specs.declared.reply.FromValue.{FromValue}
 use Rattle.reply.specs.declared.reply.FromValue.TheVariants.{Bad, Good}
 use Rattle.reply.specs.Calls.{IsInquiryAnswered, inquiry_identity}
 use Rattle.reply.specs.Faults.{fault_text, is_reply_fault_reportable}
-use Rattle.reply.specs.Inquiries.{text_worth}
+use Rattle.reply.specs.Inquiries.{value_of_text}
 use Rattle.reply.specs.Options.{reply_style}
-use Rattle.reply.proofs.ReplyResults.{value-bad, value-cut, value-fault-told, value-good, value-made}
+use Rattle.reply.proofs.ReplyResults.{value-bad, value-cut, value-fault-reportable, value-good, value-made}
 use Rattle.reply.proofs.reply.from_value.Goals as goal
 
-pub bad-requires-clause-told : goal.bad-requires-clause-told
-bad-requires-clause-told g c =
+pub bad-requires-clause-reportable : goal.bad-requires-clause-reportable
+bad-requires-clause-reportable g c =
     ap is_reply_fault_reportable c.in-Err-Fault.fault-is
-    ∙ value-fault-told c.args.options.now c.args.from.now c.trim-from.result.now c.trim-from.ensures c.args.table.now
+    ∙ value-fault-reportable c.args.options.now c.args.from.now c.trim-from.result.now c.trim-from.ensures
+    c.args.table.now
     c.evaluate_text.new.table
     c.args.steps.now c.evaluate_text.new.steps c.parse_memory_law.ensures c.in-Err-Fault.fault
     (subst (λ (x : Failure). IsInquiryAnswered inquiry_identity
-    (text_worth (table_of_deck c.args.table.now.deck) c.trim-from.result.now) (Err x)
+    (value_of_text (table_of_deck c.args.table.now.deck) c.trim-from.result.now) (Err x)
     c.args.table.now c.evaluate_text.new.table c.args.steps.now c.evaluate_text.new.steps) c.in-Err-Fault.field-0-is
     c.in-Err-Fault.ensures.inquired)
 
@@ -42,7 +43,7 @@ returns-in-Err-Fault-clause-value g c =
     c.evaluate_text.new.table
     c.args.steps.now c.evaluate_text.new.steps c.in-Err-Fault.fault
     (subst (λ (x : Failure). IsInquiryAnswered inquiry_identity
-    (text_worth (table_of_deck c.args.table.now.deck) c.trim-from.result.now) (Err x)
+    (value_of_text (table_of_deck c.args.table.now.deck) c.trim-from.result.now) (Err x)
     c.args.table.now c.evaluate_text.new.table c.args.steps.now c.evaluate_text.new.steps) c.in-Err-Fault.field-0-is
     c.in-Err-Fault.ensures.inquired))
     c.bad.ensures
@@ -53,7 +54,7 @@ returns-in-Err-Fault-clause-queries g c =
     c.evaluate_text.new.table
     c.args.steps.now c.evaluate_text.new.steps c.bad.result c.evaluate_text.ensures.deck
     (subst (λ (x : Failure). IsInquiryAnswered inquiry_identity
-    (text_worth (table_of_deck c.args.table.now.deck) c.trim-from.result.now) (Err x)
+    (value_of_text (table_of_deck c.args.table.now.deck) c.trim-from.result.now) (Err x)
     c.args.table.now c.evaluate_text.new.table c.args.steps.now c.evaluate_text.new.steps) c.in-Err-Fault.field-0-is
     c.in-Err-Fault.ensures.inquired).1
 
@@ -63,7 +64,7 @@ returns-in-Err-OutOfMemory-clause-queries g c =
     c.evaluate_text.new.table
     c.args.steps.now c.evaluate_text.new.steps
     (subst (λ (x : Failure). IsInquiryAnswered inquiry_identity
-    (text_worth (table_of_deck c.args.table.now.deck) c.trim-from.result.now) (Err x)
+    (value_of_text (table_of_deck c.args.table.now.deck) c.trim-from.result.now) (Err x)
     c.args.table.now c.evaluate_text.new.table c.args.steps.now c.evaluate_text.new.steps)
     c.in-Err-OutOfMemory.field-0-is
     c.in-Err-OutOfMemory.ensures.inquired)

@@ -4,7 +4,7 @@ use Rattle.deck.specs.Tables.{table_of_deck}
 use Rattle.expr_tree.specs.Trees.{syntax}
 use Rattle.live_table.proofs.QuerySequence.{no_live_events_keep_view}
 use Rattle.reply.specs.Calls.{IsInquiryAnswered, inquiry_failure, inquiry_identity}
-use Rattle.reply.specs.Inquiries.{inquiry_without_queries, text_worth, tree_value}
+use Rattle.reply.specs.Inquiries.{inquiry_without_queries, value_of_text, tree_value}
 use Rattle.reply.specs.Trees.{inquiry_tree}
 use Rattle.reply.proofs.InquirySequence.{read-given, then-answered, then-failed}
 use Rattle.reply.proofs.text_evaluation.evaluate_text.Goals as goal
@@ -12,7 +12,8 @@ use Rattle.reply.proofs.text_evaluation.evaluate_text.Goals as goal
 pub returns-in_err-tree-clause-inquired : goal.returns-in_err-tree-clause-inquired
 returns-in_err-tree-clause-inquired g c =
     let p = err_from_is_err_and c.from_residual.result c.from_residual.ensures.1 in
-    subst (λ r. IsInquiryAnswered inquiry_identity (text_worth (table_of_deck c.args.table.now.deck) c.args.text.now) r
+    subst (λ r. IsInquiryAnswered inquiry_identity (value_of_text (table_of_deck c.args.table.now.deck) c.args.text.now)
+    r
     c.args.table.now c.args.table.now c.args.steps.now c.args.steps.now) (sym (p.1 ∙ ap Err p.2))
     (then-failed inquiry_identity (inquiry_without_queries (inquiry_tree c.args.text.now))
     (tree_value (table_of_deck c.args.table.now.deck)) syntax
@@ -23,7 +24,8 @@ returns-in_err-tree-clause-inquired g c =
 pub returns-in_err-value-clause-inquired : goal.returns-in_err-value-clause-inquired
 returns-in_err-value-clause-inquired g c =
     let p = err_from_is_err_and c.from_residual-in_err-value.result c.from_residual-in_err-value.ensures.1 in
-    subst (λ r. IsInquiryAnswered inquiry_identity (text_worth (table_of_deck c.args.table.now.deck) c.args.text.now) r
+    subst (λ r. IsInquiryAnswered inquiry_identity (value_of_text (table_of_deck c.args.table.now.deck) c.args.text.now)
+    r
     c.args.table.now c.evaluate_tree.new.table c.args.steps.now c.evaluate_tree.new.steps) (sym (p.1 ∙ ap Err p.2))
     (then-answered inquiry_identity (inquiry_without_queries (inquiry_tree c.args.text.now))
     (tree_value (table_of_deck c.args.table.now.deck))

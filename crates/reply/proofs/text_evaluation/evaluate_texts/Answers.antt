@@ -9,9 +9,9 @@ use Rattle.expr_tree.specs.declared.tree.Tree.{Tree}
 use Rattle.expr_tree.specs.Trees.{syntax}
 use Rattle.quantity.specs.Amount.{Amount}
 use Rattle.reply.specs.Calls.{IsInquiryAnswered, inquiry_failure, inquiry_identity, inquiry_result, inquiry_syntaxes}
-use Rattle.reply.specs.Inquiries.{tree_value, worths}
-use Rattle.reply.proofs.TreeWorths.{IsUnderway, inquiry-underway-at-start, underway-failed, underway-next}
-use Rattle.reply.proofs.TreeWorths.{underway-stopped}
+use Rattle.reply.specs.Inquiries.{tree_value, values_of_trees}
+use Rattle.reply.proofs.TreeValues.{IsUnderway, inquiry-underway-at-start, underway-failed, underway-next}
+use Rattle.reply.proofs.TreeValues.{underway-stopped}
 use Rattle.reply.proofs.text_evaluation.evaluate_texts.Goals as goal
 
 pub loop-tree-init : goal.loop-tree-init
@@ -29,7 +29,7 @@ returns-in_err-value-clause-inquired g c =
     let next = drop_more c.args.trees.now c.loop-tree.tree-index c.tree-item.result (omega arith)
     ∙ ap (λ (tree : Tree). tree ∷ drop (c.loop-tree.tree-index + 1) c.args.trees.now) (sym c.tree-item.is) in
     subst (λ r. IsInquiryAnswered (λ (values : Vec Amount Global). values.items)
-    (worths (table_of_deck c.args.table.now.deck) (inquiry_syntaxes c.args.trees.now)) (inquiry_result r)
+    (values_of_trees (table_of_deck c.args.table.now.deck) (inquiry_syntaxes c.args.trees.now)) (inquiry_result r)
     c.args.table.now c.evaluate_tree.new.table c.args.steps.now c.evaluate_tree.new.steps) (sym (p.1 ∙ ap Err p.2))
     (underway-failed (table_of_deck c.args.table.now.deck) (inquiry_syntaxes c.args.trees.now)
     (inquiry_syntaxes (drop (c.loop-tree.tree-index + 1) c.args.trees.now)) (syntax c.tree-item.result)
@@ -54,7 +54,7 @@ returns-in_err-put_value-clause-inquired g c =
     let next = drop_more c.args.trees.now c.loop-tree.tree-index c.tree-item.result (omega arith)
     ∙ ap (λ (tree : Tree). tree ∷ drop (c.loop-tree.tree-index + 1) c.args.trees.now) (sym c.tree-item.is) in
     subst (λ r. IsInquiryAnswered (λ (values : Vec Amount Global). values.items)
-    (worths (table_of_deck c.args.table.now.deck) (inquiry_syntaxes c.args.trees.now)) (inquiry_result r)
+    (values_of_trees (table_of_deck c.args.table.now.deck) (inquiry_syntaxes c.args.trees.now)) (inquiry_result r)
     c.args.table.now c.evaluate_tree.new.table c.args.steps.now c.evaluate_tree.new.steps) (sym (p.1 ∙ ap Err p.2))
     (underway-stopped (λ (values : Vec Amount Global). values.items) (table_of_deck c.args.table.now.deck)
     (inquiry_syntaxes c.args.trees.now) c.args.table.now c.evaluate_tree.new.table c.args.steps.now

@@ -1,7 +1,7 @@
 use Rattle.std.proofs.Common.{drop}
 use Rattle.deck.specs.Tables.{table_of_deck}
 use Rattle.reply.specs.Calls.{inquiry_syntaxes}
-use Rattle.reply.proofs.TreeWorths.{IsUnderway}
+use Rattle.reply.proofs.TreeValues.{IsUnderway}
 use Rattle.reply.proofs.text_evaluation.evaluate_texts.Given as goal
 
 abbrev pub invariant-loop-tree : goal.invariant-loop-tree

@@ -27,7 +27,7 @@ loop-rest-preserved g c =
     let base = session_base_at_start (Some no_files_in_map) c.args.steps.now in
     let first = silent_talk c.args.session in
     lines_on base first c.args.lines.now p.0 c.loop-rest.rest.now p.1 c.in-Ok-false.field-0 _ _ _
-    c.in-Ok-false.field-0-test (c.in-Ok-false.ensures.told base first p.0 [] tt p.2)
+    c.in-Ok-false.field-0-test (c.in-Ok-false.ensures.on_trace base first p.0 [] tt p.2)
 
 pub returns-in-Ok-true : goal.returns-in-Ok-true
 returns-in-Ok-true g c =
@@ -36,7 +36,7 @@ returns-in-Ok-true g c =
     let first = silent_talk c.args.session in
     talk_is_spoken_when_over first c.args.lines.now _ c.args.steps.now
     (lines_over base first c.args.lines.now p.0 c.loop-rest.rest.now p.1 c.in-Ok-true.field-0 _ _ _
-    c.in-Ok-true.field-0-test (c.in-Ok-true.ensures.told base first p.0 [] tt p.2))
+    c.in-Ok-true.field-0-test (c.in-Ok-true.ensures.on_trace base first p.0 [] tt p.2))
 
 pub returns-in-Ok : goal.returns-in-Ok
 returns-in-Ok g c =
@@ -44,6 +44,6 @@ returns-in-Ok g c =
     let base = session_base_at_start (Some no_files_in_map) c.args.steps.now in
     let first = silent_talk c.args.session in
     talk_is_spoken_at_its_point _ _ c.args.steps.now
-    (c.in-Ok.ensures.told base first c.args.lines.now tt
+    (c.in-Ok.ensures.on_trace base first c.args.lines.now tt
     (lines_done base first c.args.lines.now p.0 c.loop-rest.rest.now p.1 _ _
     (sym c.is_empty.ensures ∙ c.loop-rest-test.false) p.2))

@@ -6,9 +6,9 @@ use Rattle.deck.specs.Tables.{table_of_deck}
 use Rattle.quantity.specs.Amount.{Amount}
 use Rattle.live_table.specs.declared.fault.QueryFault.{QueryFault}
 use Rattle.reply.specs.Calls.{IsInquiryAnswered, inquiry_failure, inquiry_identity, inquiry_result, inquiry_syntaxes}
-use Rattle.reply.specs.Inquiries.{worths}
+use Rattle.reply.specs.Inquiries.{values_of_trees}
 use Rattle.survey.specs.Checks.{checked_prefix_values, sound_finding}
-use Rattle.survey.proofs.PrefixAnswers.{prefix-untold}
+use Rattle.survey.proofs.PrefixAnswers.{prefix-unreported}
 use Rattle.survey.proofs.key_checks.prefix_checked.Goals as goal
 
 pub returns-in_err-prefix_fault-in-Err-Name-clause-inquired :
@@ -17,15 +17,15 @@ returns-in_err-prefix_fault-in-Err-Name-clause-inquired g c =
     let p = err_from_is_err_and c.from_residual.result c.from_residual.ensures.1 in
     subst (λ r. IsInquiryAnswered inquiry_identity
     (sound_finding (checked_prefix_values c.args.key.now
-    (worths (table_of_deck c.args.table.now.deck) (inquiry_syntaxes c.args.trees.now))))
+    (values_of_trees (table_of_deck c.args.table.now.deck) (inquiry_syntaxes c.args.trees.now))))
     (inquiry_result r)
     c.args.table.now c.evaluate_texts.new.table c.args.steps.now c.evaluate_texts.new.steps) (sym (p.1 ∙ ap Err p.2))
-    (prefix-untold (λ (values : Vec Amount Global). values.items) c.args.key.now
-    (worths (table_of_deck c.args.table.now.deck) (inquiry_syntaxes c.args.trees.now))
+    (prefix-unreported (λ (values : Vec Amount Global). values.items) c.args.key.now
+    (values_of_trees (table_of_deck c.args.table.now.deck) (inquiry_syntaxes c.args.trees.now))
     c.args.table.now c.evaluate_texts.new.table c.args.steps.now c.evaluate_texts.new.steps c.in-Err-Name.fault
     c.evaluate_texts.ensures.deck
     (subst (λ (fault : QueryFault). IsInquiryAnswered (λ (values : Vec Amount Global). values.items)
-    (worths (table_of_deck c.args.table.now.deck) (inquiry_syntaxes c.args.trees.now))
+    (values_of_trees (table_of_deck c.args.table.now.deck) (inquiry_syntaxes c.args.trees.now))
     (Err (inquiry_failure fault))
     c.args.table.now c.evaluate_texts.new.table c.args.steps.now c.evaluate_texts.new.steps) c.in-Err-Name.field-0-is
     c.in-Err-Name.ensures.inquired))

@@ -47,7 +47,7 @@ returns-in-Ok-clause-run g c =
       files_after = λ m input s q.
           whole_run (plan_of c.args.words.now c.args.vars.now m) m input planned.said planned.status _ _ stated
           (rw planned.field-0-is at
-          (planned.ensures.told m (run_files_known_for_definitions c.args.words.now input _ m s)))
+          (planned.ensures.if_known m (run_files_known_for_definitions c.args.words.now input _ m s)))
           c.in-Ok.ensures.whole.0 c.in-Ok.ensures.whole.1
           (planned.ensures.kept ∙ run_files_stay_known _ _ m s);
       stated_ending = λ ends. kind.1;
@@ -78,7 +78,7 @@ returns-in-Ok-Check-clause-run g c =
           planned_check_is_the_run (plan_of c.args.words.now c.args.vars.now m) m input planned.plan
           c.write_check.result _ _ _
           (rw planned.field-0-is at
-          (planned.ensures.told m (run_files_known_for_definitions c.args.words.now input _ m s)))
+          (planned.ensures.if_known m (run_files_known_for_definitions c.args.words.now input _ m s)))
           ended.written ended.steps refl
           (planned.ensures.kept ∙ run_files_stay_known _ _ m s);
       stated_ending = λ stated.
@@ -116,7 +116,7 @@ returns-in-Ok-Opened-clause-run g c =
     let opens : (RunOpensNoSession c.args.words.now c.args.vars.now c.status_of.result
     (g.F.Files.files c.args.files.now) → ⊥) =
     session_run_opens_a_session _ _ _ opened.said opened.session c.answer_source-end.result _ _ _ kind.1 is
-    (λ m s. rw opened.field-0-is at (opened.ensures.told m s)) in
+    (λ m s. rw opened.field-0-is at (opened.ensures.if_known m s)) in
     let read : (c.status_of.result ≡ ReadFault → HasIoCountRisen (g.S.Source.faults c.args.src.now)
     (g.S.Source.faults c.answer_source-end.new.src)
     ⊎ HasIoCountRisen (g.F.Files.faults c.args.files.now) (g.F.Files.faults c.answer_source-end.new.files)) = λ so.
@@ -143,7 +143,8 @@ returns-in-Ok-Opened-clause-run g c =
           let need : run_needs_input c.args.words.now ≡ true =
           ap (λ (b : Bool). b || run_converts_column c.args.words.now) session in
           let plan =
-          rw opened.field-0-is at (opened.ensures.told m (run_files_known_for_definitions c.args.words.now input _ m s))
+          rw opened.field-0-is at
+          (opened.ensures.if_known m (run_files_known_for_definitions c.args.words.now input _ m s))
           in
           let talk =
           planned_session_is_opened want m opened.said opened.session before _ plan refl refl opened.ensures.kept
@@ -189,12 +190,12 @@ returns-in-Ok-Columns-clause-run g c =
           ∙ or-true (run_opens_session c.args.words.now) in
           let plan =
           rw columns.field-0-is at
-          (columns.ensures.told m (run_files_known_for_definitions c.args.words.now input _ m s)) in
+          (columns.ensures.if_known m (run_files_known_for_definitions c.args.words.now input _ m s)) in
           let column = plan_of_column_has_its_work want m columns.plan c.args.steps.now _ plan in
           planned_column_output want column.0 m input c.convert_column.result _ _ _ _ _
           (g.F.Files.files c.args.files.now) _ _ _
           column.1 columns.ensures.kept
-          (c.convert_column.ensures.told column.0 m input (g.F.Files.files c.args.files.now)
+          (c.convert_column.ensures.if_known column.0 m input (g.F.Files.files c.args.files.now)
           (g.F.Files.faults c.args.files.now) (g.F.Files.faults c.make_plan.new.files)
           (g.F.Files.store_faults c.args.files.now) (g.F.Files.store_faults c.make_plan.new.files) c.args.steps.now
           (needed_run_value_is_known _ _ input need q) column.2 (run_files_stay_known _ _ m s));
@@ -229,7 +230,7 @@ returns-in-Ok-Opened-clause-source g c = λ none.
     (session_run_opens_a_session c.args.words.now c.args.vars.now (g.F.Files.files c.args.files.now) opened.said
     opened.session
     c.answer_source-end.result c.status_of.result _ _ kind.1 (sym c.status_of.ensures)
-    (λ m s. rw opened.field-0-is at (opened.ensures.told m s)) (run_without_input_opens_no_session _ _ _ _ none))
+    (λ m s. rw opened.field-0-is at (opened.ensures.if_known m s)) (run_without_input_opens_no_session _ _ _ _ none))
 
 pub returns-in-Ok-Columns-clause-source : goal.returns-in-Ok-Columns-clause-source
 returns-in-Ok-Columns-clause-source g c = λ none.
@@ -244,7 +245,7 @@ returns-in-Ok-Columns-clause-source g c = λ none.
     (λ file. subst IsWorkedRunEnd file (c.convert_column.ensures.ends (subst IsStatedRunEnd (sym file) tt)))
     (λ whole.
     whole_plan_converts_no_column (plan_of words c.args.vars.now whole.0) whole.0 planned.plan _ _ whole.2
-    (rw planned.field-0-is at (planned.ensures.told whole.0 whole.1))))
+    (rw planned.field-0-is at (planned.ensures.if_known whole.0 whole.1))))
     none)
 
 pub returns-in-Ok-Opened-clause-unread : goal.returns-in-Ok-Opened-clause-unread
@@ -255,7 +256,7 @@ returns-in-Ok-Opened-clause-unread g c = λ none.
     (session_run_opens_a_session c.args.words.now c.args.vars.now (g.F.Files.files c.args.files.now) opened.said
     opened.session
     c.answer_source-end.result c.status_of.result _ _ kind.1 (sym c.status_of.ensures)
-    (λ m s. rw opened.field-0-is at (opened.ensures.told m s)) none)
+    (λ m s. rw opened.field-0-is at (opened.ensures.if_known m s)) none)
 
 pub returns-in-Err-ReadFault-clause-run : goal.returns-in-Err-ReadFault-clause-run
 returns-in-Err-ReadFault-clause-run g c =
@@ -297,7 +298,7 @@ returns-in-Ok-Whole-clause-run g c =
       files_after = λ m input s q.
           cut_run (plan_of c.args.words.now c.args.vars.now m) m input planned.said planned.status _ _
           (rw planned.field-0-is at
-          (planned.ensures.told m (run_files_known_for_definitions c.args.words.now input _ m s)))
+          (planned.ensures.if_known m (run_files_known_for_definitions c.args.words.now input _ m s)))
           c.write.ensures.out c.write.ensures.err
           (planned.ensures.kept ∙ run_files_stay_known _ _ m s);
       stated_ending = λ stated. absurd stated;
@@ -348,33 +349,33 @@ pub returns-in-Ok-clause-order : goal.returns-in-Ok-clause-order
 returns-in-Ok-clause-order g c = λ m s.
     let planned = c.in-Ok-Whole in
     whole_plan_err_before_out (plan_of c.args.words.now c.args.vars.now m) m planned.said planned.status _ _ _ _
-    (rw planned.field-0-is at (planned.ensures.told m s)) c.write.ensures.order
+    (rw planned.field-0-is at (planned.ensures.if_known m s)) c.write.ensures.order
 
 pub returns-in-Ok-Whole-clause-order : goal.returns-in-Ok-Whole-clause-order
 returns-in-Ok-Whole-clause-order g c = λ m s.
     let planned = c.in-Ok-Whole in
     whole_plan_err_before_out (plan_of c.args.words.now c.args.vars.now m) m planned.said planned.status _ _ _ _
-    (rw planned.field-0-is at (planned.ensures.told m s)) c.write.ensures.order
+    (rw planned.field-0-is at (planned.ensures.if_known m s)) c.write.ensures.order
 
 pub returns-in-Ok-Check-clause-order : goal.returns-in-Ok-Check-clause-order
 returns-in-Ok-Check-clause-order g c = λ m s.
     let planned = c.in-Ok-Check in
     inr
     (check_plan_writes_no_err (plan_of c.args.words.now c.args.vars.now m) m planned.plan _ _ _ _
-    (rw planned.field-0-is at (planned.ensures.told m s)) refl)
+    (rw planned.field-0-is at (planned.ensures.if_known m s)) refl)
 
 pub returns-in-Ok-Opened-clause-order : goal.returns-in-Ok-Opened-clause-order
 returns-in-Ok-Opened-clause-order g c = λ m s.
     let opened = c.in-Ok-Opened in
     session_plan_err_before_out (plan_of c.args.words.now c.args.vars.now m) m opened.said opened.session _ _ _ _
-    (rw opened.field-0-is at (opened.ensures.told m s))
+    (rw opened.field-0-is at (opened.ensures.if_known m s))
     (rw c.new-listener.ensures.talk at c.answer_source-end.ensures.order)
 
 pub returns-in-Ok-Opened-clause-opened : goal.returns-in-Ok-Opened-clause-opened
 returns-in-Ok-Opened-clause-opened g c = λ m s.
     let opened = c.in-Ok-Opened in
     session_plan_opening (plan_of c.args.words.now c.args.vars.now m) m opened.said opened.session _ _ _ _ _ _
-    (rw opened.field-0-is at (opened.ensures.told m s))
+    (rw opened.field-0-is at (opened.ensures.if_known m s))
     (rw c.new-listener.ensures.talk at c.answer_source-end.ensures.opening)
 
 pub returns-in-Ok-Opened-clause-unnamed : goal.returns-in-Ok-Opened-clause-unnamed
@@ -385,13 +386,13 @@ pub returns-in-Ok-Columns-clause-order : goal.returns-in-Ok-Columns-clause-order
 returns-in-Ok-Columns-clause-order g c = λ m s.
     let columns = c.in-Ok-Columns in
     column_plan_err_before_out (plan_of c.args.words.now c.args.vars.now m) m columns.plan _ _ _ _
-    (rw columns.field-0-is at (columns.ensures.told m s)) c.convert_column.ensures.noticed
+    (rw columns.field-0-is at (columns.ensures.if_known m s)) c.convert_column.ensures.noticed
 
 pub returns-in-Ok-Columns-clause-opened : goal.returns-in-Ok-Columns-clause-opened
 returns-in-Ok-Columns-clause-opened g c = λ m s.
     let columns = c.in-Ok-Columns in
     column_plan_opening (plan_of c.args.words.now c.args.vars.now m) m columns.plan _ _ _ _ _ _
-    (rw columns.field-0-is at (columns.ensures.told m s)) c.convert_column.ensures.noticed
+    (rw columns.field-0-is at (columns.ensures.if_known m s)) c.convert_column.ensures.noticed
 
 pub returns-in-Ok-clause-opened : goal.returns-in-Ok-clause-opened
 returns-in-Ok-clause-opened g c = λ m s. inl refl

@@ -9,8 +9,8 @@ use Rattle.units_run.specs.declared.status.Status.TheVariants.{NoFile}
 use Rattle.units_run.proofs.WordPlans.{needed_run_value_is_known, plan_without_deck}
 use Rattle.units_run.proofs.words_plan.deck_plan.Goals as goal
 
-pub returns-in-Err-clause-told : goal.returns-in-Err-clause-told
-returns-in-Err-clause-told g c = λ m s.
+pub returns-in-Err-clause-if_known : goal.returns-in-Err-clause-if_known
+returns-in-Err-clause-if_known g c = λ m s.
     let line = c.args.line.now in
     let n = c.args.steps.now in
     let missing = c.no_deck_plan in
@@ -25,7 +25,7 @@ returns-in-Err-clause-told g c = λ m s.
     (needed_run_value_is_known (is_some line.file) (g.F.Files.files c.args.files.now) m (ap is_some c.in-Some.is) s)))
     (subst (λ (name : List ℕ). IsPlanned (complaint_plan (no_deck_run_line c.in-Err.fault name) NoFile) m missing.result
     n n)
-    c.as_bytes-in-Err.ensures (missing.ensures.told m n)))
+    c.as_bytes-in-Err.ensures (missing.ensures.if_known m n)))
 
 pub returns-in-Err-clause-kind : goal.returns-in-Err-clause-kind
 returns-in-Err-clause-kind g c =

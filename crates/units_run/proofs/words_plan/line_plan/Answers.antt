@@ -7,9 +7,9 @@ use Rattle.units_run.specs.Settings.{run_settings}
 use Rattle.units_run.specs.Work.{plan_of_trial_or_deck, trial_plan}
 use Rattle.units_run.proofs.words_plan.line_plan.Goals as goal
 
-pub returns-in_ok-trial_plan-in-Some-clause-told :
-    goal.returns-in_ok-trial_plan-in-Some-clause-told
-returns-in_ok-trial_plan-in-Some-clause-told g c = λ m s.
+pub returns-in_ok-trial_plan-in-Some-clause-if_known :
+    goal.returns-in_ok-trial_plan-in-Some-clause-if_known
+returns-in_ok-trial_plan-in-Some-clause-if_known g c = λ m s.
     let line = c.args.line.now in
     let plan = c.in_ok-trial_plan-in-Some in
     let old = c.args.steps.now in
@@ -21,4 +21,4 @@ returns-in_ok-trial_plan-in-Some-clause-told g c = λ m s.
     (subst
     (λ (st : Settings). IsPlan (trial_plan (trial_session (run_options line) st c.in-Some.rounds)) m plan.field-0 old
     new)
-    c.in_ok-settings.ensures (plan.ensures.told m))
+    c.in_ok-settings.ensures (plan.ensures.if_known m))

@@ -11,23 +11,23 @@ use Rattle.units_run.proofs.WordPlans.{plan_of_invalid_words, plan_of_valid_word
 use Rattle.units_run.proofs.WordPlans.{run_without_file_loads_none, run_value_known_for_lesser_need}
 use Rattle.units_run.proofs.words_plan.make_plan.Goals as goal
 
-pub returns-in-Ok-clause-told : goal.returns-in-Ok-clause-told
-returns-in-Ok-clause-told g c = λ m s.
+pub returns-in-Ok-clause-if_known : goal.returns-in-Ok-clause-if_known
+returns-in-Ok-clause-if_known g c = λ m s.
     let words = c.args.words.now in
     let read = c.in-Ok.ensures in
     subst (λ (p : plans.Plan). IsPlanned p m c.line_plan.result c.args.steps.now c.line_plan.new.steps)
     (plan_of_valid_words words c.args.vars.now m c.in-Ok.line read.taken read.read)
-    (c.line_plan.ensures.told m
+    (c.line_plan.ensures.if_known m
     (run_value_known_for_lesser_need _ _ _ m (run_without_file_loads_none words c.in-Ok.line read.taken read.read) s))
 
-pub returns-in_ok-complaint-in-Err-Usage-clause-told : goal.returns-in_ok-complaint-in-Err-Usage-clause-told
-returns-in_ok-complaint-in-Err-Usage-clause-told g c = λ m s.
+pub returns-in_ok-complaint-in-Err-Usage-clause-if_known : goal.returns-in_ok-complaint-in-Err-Usage-clause-if_known
+returns-in_ok-complaint-in-Err-Usage-clause-if_known g c = λ m s.
     let plan = c.in_ok-complaint-in-Err-Usage in
     subst (λ (p : plans.Plan). IsPlan p m plan.field-0 c.args.steps.now c.args.steps.now)
     (ap (λ (t : List ℕ). complaint_plan t Usage) c.usage_text.ensures
     ∙ plan_of_invalid_words c.args.words.now c.args.vars.now m
     (c.in-Err-Usage.ensures.usage (ap Err c.in-Err-Usage.field-0-is)))
-    (plan.ensures.told m c.args.steps.now)
+    (plan.ensures.if_known m c.args.steps.now)
 
 pub returns-in_ok-complaint-in-Err-Usage-clause-kind : goal.returns-in_ok-complaint-in-Err-Usage-clause-kind
 returns-in_ok-complaint-in-Err-Usage-clause-kind g c =

@@ -11,8 +11,8 @@ use Rattle.units_run.specs.declared.plan.Plan.TheVariants.{Whole}
 use Rattle.units_run.proofs.DeckPlans.{reply-planned, run_reply_for_equal_texts}
 use Rattle.units_run.proofs.work.reply_plan.Goals as goal
 
-pub returns-clause-told : goal.returns-clause-told
-returns-clause-told g c = λ m.
+pub returns-clause-if_known : goal.returns-clause-if_known
+returns-clause-if_known g c = λ m.
     let deck = c.args.table.now.deck in
     subst
     (λ (a : SurveyedReply). IsPlan (plan_of_reply deck a) m

@@ -8,8 +8,8 @@ use Rattle.units_run.specs.Work.{from_plan, plan_of_check, plan_of_session, plan
 use Rattle.units_run.proofs.DeckPlans.{plan_kind_of_words, plan_of_given_from}
 use Rattle.units_run.proofs.work.work.Goals as goal
 
-pub returns-in-Some-column-clause-told : goal.returns-in-Some-column-clause-told
-returns-in-Some-column-clause-told g c = λ m.
+pub returns-in-Some-column-clause-if_known : goal.returns-in-Some-column-clause-if_known
+returns-in-Some-column-clause-if_known g c = λ m.
     let line = c.args.line.now in
     let n = c.args.steps.now in
     subst (λ (p : Planned). IsPlanned p m c.column_plan.result n n)
@@ -21,7 +21,7 @@ returns-in-Some-column-clause-told g c = λ m.
     (from_plan (Some c.in-Some-column.column) line (line_content c.as_bytes.result.now)
     (line_content (unwrap_or line.to []))
     t.deck) m c.column_plan.result n n)
-    c.new-table.ensures (c.column_plan.ensures.told m n))
+    c.new-table.ensures (c.column_plan.ensures.if_known m n))
 
 pub returns-in-Some-column-clause-kind : goal.returns-in-Some-column-clause-kind
 returns-in-Some-column-clause-kind g c =
@@ -31,8 +31,8 @@ returns-in-Some-column-clause-kind g c =
     ∙ ap is_some c.in-Some-column.is)
     c.column_plan.ensures.kind
 
-pub returns-in_default-clause-told : goal.returns-in_default-clause-told
-returns-in_default-clause-told g c = λ m.
+pub returns-in_default-clause-if_known : goal.returns-in_default-clause-if_known
+returns-in_default-clause-if_known g c = λ m.
     let line = c.args.line.now in
     let old = c.args.steps.now in
     let new = c.reply_plan-plan.new.steps in
@@ -43,7 +43,7 @@ returns-in_default-clause-told g c = λ m.
     (λ (t : LiveView). IsPlanned
     (from_plan None line (line_content c.as_bytes-in-Some.result.now) (line_content (unwrap_or line.to [])) t.deck) m
     c.reply_plan-plan.result old new)
-    c.new-table.ensures (c.reply_plan-plan.ensures.told m))
+    c.new-table.ensures (c.reply_plan-plan.ensures.if_known m))
 
 pub returns-in_default-clause-kind : goal.returns-in_default-clause-kind
 returns-in_default-clause-kind g c =
@@ -54,8 +54,8 @@ returns-in_default-clause-kind g c =
     ∙ ap is_some c.in_default.is)
     c.reply_plan-plan.ensures.kind
 
-pub returns-then-line-clause-told : goal.returns-then-line-clause-told
-returns-then-line-clause-told g c = λ m.
+pub returns-then-line-clause-if_known : goal.returns-then-line-clause-if_known
+returns-then-line-clause-if_known g c = λ m.
     let line = c.args.line.now in
     let n = c.args.steps.now in
     subst (λ (from : Option (List ℕ)). IsPlanned (plan_of_work from line c.args.deck m) m c.check_plan.result n n)
@@ -65,7 +65,7 @@ returns-then-line-clause-told g c = λ m.
     c.check_plan.result n n)
     (sym c.if-line.true)
     (subst (λ (t : LiveView). IsPlanned (plan_of_check line t.deck) m c.check_plan.result n n) c.new-table.ensures
-    (c.check_plan.ensures.told m n)))
+    (c.check_plan.ensures.if_known m n)))
 
 pub returns-then-line-clause-kind : goal.returns-then-line-clause-kind
 returns-then-line-clause-kind g c =
@@ -75,8 +75,8 @@ returns-then-line-clause-kind g c =
     (ap (λ (from : Option (List ℕ)). is_some from && is_some c.args.line.now.column) c.in-None.is)
     c.check_plan.ensures.kind
 
-pub returns-else-line-clause-told : goal.returns-else-line-clause-told
-returns-else-line-clause-told g c = λ m.
+pub returns-else-line-clause-if_known : goal.returns-else-line-clause-if_known
+returns-else-line-clause-if_known g c = λ m.
     let line = c.args.line.now in
     let n = c.args.steps.now in
     subst (λ (from : Option (List ℕ)). IsPlanned (plan_of_work from line c.args.deck m) m c.session_plan.result n n)
@@ -86,7 +86,7 @@ returns-else-line-clause-told g c = λ m.
     c.session_plan.result n n)
     (sym c.if-line.false)
     (subst (λ (t : LiveView). IsPlanned (plan_of_session line t.deck m) m c.session_plan.result n n) c.new-table.ensures
-    (c.session_plan.ensures.told m n)))
+    (c.session_plan.ensures.if_known m n)))
 
 pub returns-else-line-clause-kind : goal.returns-else-line-clause-kind
 returns-else-line-clause-kind g c =

@@ -230,7 +230,8 @@ load_include-returns-in_err-push_line-in-Ok-clause-loads g t c =
     c.if-depth-eq0.false c.args.draft.now c.fetch.new.self c.push_line.new.self
     (c.has_room.ensures (plain_store_line c.args.line.number c.args.line.text) (sym (ap length c.as_bytes.ensures))
     ∙ ap not c.if-not-has_room.false)
-    c.push_line.new.self c.in-Ok.text c.in_err-push_line-in-Ok.field-0.0 c.in-Ok.ensures.told c.in-Ok.ensures.fetched
+    c.push_line.new.self c.in-Ok.text c.in_err-push_line-in-Ok.field-0.0 c.in-Ok.ensures.if_known
+    c.in-Ok.ensures.fetched
     c.in_err-push_line-in-Ok.ensures.put)
 
 pub load_include-returns-in_ok-push_line-in-Ok-clause-loads
@@ -242,7 +243,7 @@ load_include-returns-in_ok-push_line-in-Ok-clause-loads g t c =
     c.args.line c.if-depth-eq0.false c.args.draft.now c.fetch.new.self c.load_file.new.draft
     (c.has_room.ensures (plain_store_line c.args.line.number c.args.line.text) (sym (ap length c.as_bytes.ensures))
     ∙ ap not c.if-not-has_room.false)
-    c.load_file.new.files c.push_line.new.self c.in-Ok.text c.load_file.result c.in-Ok.ensures.told
+    c.load_file.new.files c.push_line.new.self c.in-Ok.text c.load_file.result c.in-Ok.ensures.if_known
     c.in-Ok.ensures.fetched c.in_ok-push_line-in-Ok.ensures.put
     (subst (λ files. IsPartLoad OutOfMemory
     (IsPartTranscript files g.F.Files.is_fetch c.fetch.new.self c.load_file.new.files)
@@ -261,7 +262,7 @@ load_include-returns-in-Err-Absent-clause-loads g t c =
     c.args.line c.if-depth-eq0.false c.args.draft.now c.fetch.new.self c.put_unread-in-Err-Absent.new.draft
     (c.has_room.ensures (plain_store_line c.args.line.number c.args.line.text) (sym (ap length c.as_bytes.ensures))
     ∙ ap not c.if-not-has_room.false)
-    c.put_unread-in-Err-Absent.result (rw c.in-Err-Absent.field-0-is at c.in-Err-Absent.ensures.told)
+    c.put_unread-in-Err-Absent.result (rw c.in-Err-Absent.field-0-is at c.in-Err-Absent.ensures.if_known)
     (rw c.in-Err-Absent.field-0-is at c.in-Err-Absent.ensures.fetched)
     c.put_unread-in-Err-Absent.ensures.put)
 
@@ -273,7 +274,7 @@ load_include-returns-in-Err-TooLong-clause-loads g t c =
     c.args.line c.if-depth-eq0.false c.args.draft.now c.fetch.new.self c.put_unread-in-Err-TooLong.new.draft
     (c.has_room.ensures (plain_store_line c.args.line.number c.args.line.text) (sym (ap length c.as_bytes.ensures))
     ∙ ap not c.if-not-has_room.false)
-    c.put_unread-in-Err-TooLong.result (rw c.in-Err-TooLong.field-0-is at c.in-Err-TooLong.ensures.told)
+    c.put_unread-in-Err-TooLong.result (rw c.in-Err-TooLong.field-0-is at c.in-Err-TooLong.ensures.if_known)
     (rw c.in-Err-TooLong.field-0-is at c.in-Err-TooLong.ensures.fetched)
     c.put_unread-in-Err-TooLong.ensures.put)
 
@@ -284,7 +285,7 @@ load_include-returns-in-Err-Failed-clause-loads g t c =
     c.as_bytes-file.result.now c.args.line c.if-depth-eq0.false c.args.draft.now c.fetch.new.self c.args.draft.now
     (c.has_room.ensures (plain_store_line c.args.line.number c.args.line.text) (sym (ap length c.as_bytes.ensures))
     ∙ ap not c.if-not-has_room.false)
-    (rw c.in-Err-Failed.field-0-is at c.in-Err-Failed.ensures.told)
+    (rw c.in-Err-Failed.field-0-is at c.in-Err-Failed.ensures.if_known)
     (rw c.in-Err-Failed.field-0-is at c.in-Err-Failed.ensures.fetched))
 
 pub load_line-returns-in-Stands-clause-loads : goal.load_line-returns-in-Stands-clause-loads

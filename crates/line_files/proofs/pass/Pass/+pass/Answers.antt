@@ -57,7 +57,7 @@ read_include-returns-in-Ok-clause-found g t c = λ m h.
     subst (λ lines. OnOk c.read_file.result
     (c.read_file.new.self.found ≡ c.args.self.now.found ++ line_file_names lines))
     (sym (read_below m c.args.depth c.args.name.now c.if-depth-eq0.false c.in-Ok.text
-    (fact_of_known_line_files _ (λ n. IsFileFetched n c.args.name.now (Ok c.in-Ok.text)) m h c.in-Ok.ensures.told)))
+    (fact_of_known_line_files _ (λ n. IsFileFetched n c.args.name.now (Ok c.in-Ok.text)) m h c.in-Ok.ensures.if_known)))
     (subst (λ bytes. OnOk c.read_file.result (c.read_file.new.self.found
     ≡ c.args.self.now.found ++ line_file_names (file_lines_above m (c.args.depth - 1) c.args.name.now bytes)))
     c.as_bytes.ensures (c.read_file.ensures.found m (c.fetch.ensures.kept ∙ h)))
@@ -66,14 +66,14 @@ pub read_include-returns-in-Err-Absent-clause-found : goal.read_include-returns-
 read_include-returns-in-Err-Absent-clause-found g t c = λ m h.
     missing_below m c.args.depth c.args.name.now c.if-depth-eq0.false Absent
     (fact_of_known_line_files _ (λ n. IsFileFetched n c.args.name.now (Err Absent)) m h
-    (rw c.in-Err-Absent.field-0-is at c.in-Err-Absent.ensures.told))
+    (rw c.in-Err-Absent.field-0-is at c.in-Err-Absent.ensures.if_known))
     c.args.self.now.found
 
 pub read_include-returns-in-Err-TooLong-clause-found : goal.read_include-returns-in-Err-TooLong-clause-found
 read_include-returns-in-Err-TooLong-clause-found g t c = λ m h.
     missing_below m c.args.depth c.args.name.now c.if-depth-eq0.false TooLong
     (fact_of_known_line_files _ (λ n. IsFileFetched n c.args.name.now (Err TooLong)) m h
-    (rw c.in-Err-TooLong.field-0-is at c.in-Err-TooLong.ensures.told))
+    (rw c.in-Err-TooLong.field-0-is at c.in-Err-TooLong.ensures.if_known))
     c.args.self.now.found
 
 pub read_line-returns-in_ok-name-in-Includes-clause-found : goal.read_line-returns-in_ok-name-in-Includes-clause-found

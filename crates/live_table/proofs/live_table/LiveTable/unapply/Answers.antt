@@ -71,7 +71,7 @@ returns-in-Err-clause-answer g c =
     (named_answer (AsksKey (key g a)) (key_fault (table_of_deck c.self.inside.deck) (key g a))
     (IsSettledKey (node_lists c.ask_key-answer.new.nodes) (key g a)) (before g a) (now g a) c.args.steps.now
     c.ask_key-answer.new.steps s.0 s.2
-    (spec.live_inverse_worth (key_meaning (table_of_deck c.self.inside.deck) (key g a)) c.args.value.now)
+    (spec.live_inverse_value (key_meaning (table_of_deck c.self.inside.deck) (key g a)) c.args.value.now)
     c.fault_of_stop.result
     (c.fault_of_stop.ensures s.0 s.1))
 
@@ -113,11 +113,11 @@ returns-clause-answer g c =
     (spec.live_inverse_answer (table_of_deck s.deck) c.args.name.now
     c.args.value.now)) c.self.view_is
     (live_answer_without_name_fault (key_fault (table_of_deck c.self.inside.deck) (key_named kind.Func c.args.name.now))
-    (spec.live_inverse_worth (key_meaning (table_of_deck c.self.inside.deck) (key_named kind.Func c.args.name.now))
+    (spec.live_inverse_value (key_meaning (table_of_deck c.self.inside.deck) (key_named kind.Func c.args.name.now))
     c.args.value.now)
     c.evaluate_inverse.result a.0
-    (subst (λ (x : Key). spec.IsLiveQueryResult c.evaluate_inverse.result (spec.live_answer_of_worth None
-    (spec.live_inverse_worth (key_meaning (table_of_deck c.self.inside.deck) x) c.args.value.now)))
+    (subst (λ (x : Key). spec.IsLiveQueryResult c.evaluate_inverse.result (spec.live_answer_of_value None
+    (spec.live_inverse_value (key_meaning (table_of_deck c.self.inside.deck) x) c.args.value.now)))
     (sym a.1.0) c.evaluate_inverse.ensures))
 
 pub returns-clause-after : goal.returns-clause-after

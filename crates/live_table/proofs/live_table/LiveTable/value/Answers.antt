@@ -83,7 +83,7 @@ returns-clause-answer g c =
     let s = stopped g at.After-ask_words-query c.in-Err.stop c.in-Err.is in
     let a = at.After-ask_words-query in
     subst (λ (x : List WordUse × DeckContents). spec.IsLiveQueryResult (Err c.fault_of_stop.result)
-    (spec.live_answer_of_worth (name_fault (table_of_deck x.1) x.0)
+    (spec.live_answer_of_value (name_fault (table_of_deck x.1) x.0)
     (value (expansion (table_of_deck x.1) (syntax c.args.tree.now)) None)))
     (λ i. (c.in_ok-words.ensures i, (c.self.view_is i).deck))
     (named_answer (AsksWords (us g a)) (name_fault (table_of_deck c.self.inside.deck) (us g a)) (AreGiven g a)
@@ -127,7 +127,7 @@ evaluate_tree-requires-clause-settled g c =
 pub returns-in-Ok-clause-answer : goal.returns-in-Ok-clause-answer
 returns-in-Ok-clause-answer g c =
     subst (λ (x : List WordUse × DeckContents). spec.IsLiveQueryResult c.evaluate_tree.result
-    (spec.live_answer_of_worth (name_fault (table_of_deck x.1) x.0)
+    (spec.live_answer_of_value (name_fault (table_of_deck x.1) x.0)
     (value (expansion (table_of_deck x.1) (syntax c.args.tree.now)) None)))
     (λ i. (c.in_ok-words.ensures i, (c.self.view_is i).deck))
     (live_answer_without_name_fault (name_fault (table_of_deck c.self.inside.deck) c.in_ok-words.words)

@@ -78,7 +78,7 @@ returns-clause-value g c =
     let s = stopped g at.After-ask_words-query c.in-Err.stop c.in-Err.is in
     let a = at.After-ask_words-query in
     subst (λ (x : List WordUse × DeckContents). IfOk c.no_value.result (λ v. v ≡ spec.live_answer_value
-    (spec.live_answer_of_worth (name_fault (table_of_deck x.1) x.0)
+    (spec.live_answer_of_value (name_fault (table_of_deck x.1) x.0)
     (value (expansion (table_of_deck x.1) (syntax c.args.tree.now)) None))))
     (λ i. (c.in_ok-words.ensures i, (c.self.view_is i).deck))
     (none_value (AsksWords (us g a)) (name_fault (table_of_deck c.self.inside.deck) (us g a)) (AreGiven g a)
@@ -128,11 +128,11 @@ evaluate_tree-requires-clause-settled g c =
 pub returns-in-Ok-clause-value : goal.returns-in-Ok-clause-value
 returns-in-Ok-clause-value g c =
     subst (λ (x : List WordUse × DeckContents). IfOk c.value_of.result (λ v. v ≡ spec.live_answer_value
-    (spec.live_answer_of_worth (name_fault (table_of_deck x.1) x.0)
+    (spec.live_answer_of_value (name_fault (table_of_deck x.1) x.0)
     (value (expansion (table_of_deck x.1) (syntax c.args.tree.now)) None))))
     (λ i. (c.in_ok-words.ensures i, (c.self.view_is i).deck))
     (live_answer_value_is_found c.value_of.result c.evaluate_tree.result
-    (spec.live_answer_of_worth (name_fault (table_of_deck c.self.inside.deck) c.in_ok-words.words)
+    (spec.live_answer_of_value (name_fault (table_of_deck c.self.inside.deck) c.in_ok-words.words)
     (value (expansion (table_of_deck c.self.inside.deck) (syntax c.args.tree.now)) None))
     c.value_of.ensures.ok c.value_of.ensures.some
     (live_answer_without_name_fault (name_fault (table_of_deck c.self.inside.deck) c.in_ok-words.words)

@@ -5,7 +5,7 @@ use Rattle.live_table.specs.Scenes.{node_holder_words}
 use Rattle.live_table.specs.TableContents.{node_lists}
 use Rattle.live_table.proofs.NodeReports.{callees_within, node_led_word_has_small_place, of_led, query_led}
 use Rattle.live_table.proofs.NodeReports.{steps_within}
-use Rattle.live_table.proofs.ToldWords.{IsLedBy, are_led, first_settled, second_settled, to_first, to_second}
+use Rattle.live_table.proofs.ReportedWords.{IsLedBy, are_led, first_settled, second_settled, to_first, to_second}
 use Rattle.live_table.proofs.surroundings.Surroundings.targets.Goals as goal
 use Rattle.live_table.proofs.surroundings.Surroundings.targets.Goals.{After-start_of, In-Expression}
 

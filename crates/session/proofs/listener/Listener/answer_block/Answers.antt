@@ -36,7 +36,7 @@ returns-in_default-clause-run g c = λ was is. record {
       part_written first taken c.args.block.now p.0 c.loop-rest.rest.now c.feed_block-fed.new.rest.now more p.1 _ _ _ _
       p.2
       c.feed_block-fed.result _ c.feed_block-fed.new.self.talk.said _ _
-      (c.feed_block-fed.ensures.told _ first (taken ++ p.0) more
+      (c.feed_block-fed.ensures.on_trace _ first (taken ++ p.0) more
       (equal_heard_input_loads_file _ _ start.files
       (session_feed_keeps_input taken c.args.block.now p.0 c.loop-rest.rest.now more p.1) t) s)
       c.write.ensures.out c.write.ensures.err
@@ -61,7 +61,7 @@ returns-in-Some-clause-run g c = λ was is. record {
       ended_written first taken c.args.block.now p.0 c.loop-rest.rest.now c.feed_block-fed.new.rest.now more p.1 _ _ _ _
       p.2
       c.feed_block-fed.result _ c.feed_block-fed.new.self.talk.said _ _
-      (c.feed_block-fed.ensures.told _ first (taken ++ p.0) more
+      (c.feed_block-fed.ensures.on_trace _ first (taken ++ p.0) more
       (equal_heard_input_loads_file _ _ start.files
       (session_feed_keeps_input taken c.args.block.now p.0 c.loop-rest.rest.now more p.1) t) s)
       c.in-Some.end
@@ -116,7 +116,7 @@ loop-rest-preserved g c = record {
       let s = stands first (taken ++ p.0) _ _ _ _ p.2 c.clear.new.self c.clear.ensures.out c.clear.ensures.err in
       waits_on first taken c.args.block.now p.0 c.loop-rest.rest.now c.feed_block-fed.new.rest.now more p.1 _ _ _ _ p.2
       c.feed_block-fed.result _ c.feed_block-fed.new.self.talk.said _ _
-      (c.feed_block-fed.ensures.told _ first (taken ++ p.0) more
+      (c.feed_block-fed.ensures.on_trace _ first (taken ++ p.0) more
       (equal_heard_input_loads_file _ _ start.files
       (session_feed_keeps_input taken c.args.block.now p.0 c.loop-rest.rest.now more p.1) t) s)
       c.in-Ok.ensures.whole.0 c.in-Ok.ensures.whole.1

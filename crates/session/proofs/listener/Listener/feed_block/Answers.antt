@@ -7,15 +7,15 @@ use Rattle.session.specs.SessionProgress.{session_now_of}
 use Rattle.session.specs.Talks.{talk_over_lines}
 use Rattle.session.specs.declared.fault.SessionFault.TheVariants.{OutOfMemory}
 use Rattle.session.proofs.BlockFeeds.{line_fed, line_lost, line_over, rest_held, rest_lost, talk_holds_input_rest}
-use Rattle.session.proofs.HeardLines.{line_holds, line_last, line_names_none, line_told, rest_holds}
+use Rattle.session.proofs.HeardLines.{line_holds, line_last, line_names_none, line_is_known, rest_holds}
 use Rattle.session.proofs.listener.Listener.feed_block.Goals as goal
 
-pub returns-in-Ok-true-clause-told : goal.returns-in-Ok-true-clause-told
-returns-in-Ok-true-clause-told g c = λ base first taken more t s.
+pub returns-in-Ok-true-clause-on_trace : goal.returns-in-Ok-true-clause-on_trace
+returns-in-Ok-true-clause-on_trace g c = λ base first taken more t s.
     let p = c.loop-piece.invariant.fed base first taken more t s in
-    let told = c.in-Ok-true.ensures.told base (talk_over_lines first (whole_input_lines (taken ++ p.0)))
+    let on_trace = c.in-Ok-true.ensures.on_trace base (talk_over_lines first (whole_input_lines (taken ++ p.0)))
     (unfinished_input_line (taken ++ p.0)) p.2.held_part
-    (line_told taken c.args.rest.now.now p.0 c.loop-piece.rest.now c.loop-piece.self.held p.1
+    (line_is_known taken c.args.rest.now.now p.0 c.loop-piece.rest.now c.loop-piece.self.held p.1
     (talk_holds_input_rest base first _ _ _ p.2)
     c.in-Some.piece.now c.in-Some.behind.now (sym c.in-Some.ensures) more base.files t) p.2.is_at in
     line_over base first taken c.args.rest.now.now p.0 c.loop-piece.rest.now c.loop-piece.self.held
@@ -25,10 +25,10 @@ returns-in-Ok-true-clause-told g c = λ base first taken more t s.
     c.in-Some.behind.now (sym c.in-Some.ensures) more
     (session_now_of c.end_line.new.self.talk.said c.end_line.new.self.talk.session
     (g.F.Files.files c.end_line.new.files) c.end_line.new.steps)
-    (sym c.in-Ok-true.field-0-test ∙ told.0) told.2
+    (sym c.in-Ok-true.field-0-test ∙ on_trace.0) on_trace.2
 
-pub returns-in-Err-clause-told : goal.returns-in-Err-clause-told
-returns-in-Err-clause-told g c = λ base first taken more t s.
+pub returns-in-Err-clause-on_trace : goal.returns-in-Err-clause-on_trace
+returns-in-Err-clause-on_trace g c = λ base first taken more t s.
     let p = c.loop-piece.invariant.fed base first taken more t s in
     line_lost base first taken c.args.rest.now.now p.0 c.loop-piece.rest.now c.loop-piece.self.held
     (session_now_of c.loop-piece.self.talk.said c.loop-piece.self.talk.session (g.F.Files.files c.loop-piece.files)
@@ -37,19 +37,19 @@ returns-in-Err-clause-told g c = λ base first taken more t s.
     c.in-Some.behind.now (sym c.in-Some.ensures) c.in-Err.fault more
     (session_now_of c.end_line.new.self.talk.said c.end_line.new.self.talk.session
     (g.F.Files.files c.end_line.new.files) c.end_line.new.steps)
-    (c.in-Err.ensures.told base (talk_over_lines first (whole_input_lines (taken ++ p.0)))
+    (c.in-Err.ensures.on_trace base (talk_over_lines first (whole_input_lines (taken ++ p.0)))
     (unfinished_input_line (taken ++ p.0))
     p.2.held_part
-    (line_told taken c.args.rest.now.now p.0 c.loop-piece.rest.now c.loop-piece.self.held p.1
+    (line_is_known taken c.args.rest.now.now p.0 c.loop-piece.rest.now c.loop-piece.self.held p.1
     (talk_holds_input_rest base first _ _ _ p.2)
     c.in-Some.piece.now c.in-Some.behind.now (sym c.in-Some.ensures) more base.files t) p.2.is_at)
 
-pub returns-then-is_long-clause-told : goal.returns-then-is_long-clause-told
-returns-then-is_long-clause-told g c = λ base first taken more t s.
+pub returns-then-is_long-clause-on_trace : goal.returns-then-is_long-clause-on_trace
+returns-then-is_long-clause-on_trace g c = λ base first taken more t s.
     let p = c.loop-piece.invariant.fed base first taken more t s in
-    let told = c.in-Ok-false.ensures.told base (talk_over_lines first (whole_input_lines (taken ++ p.0)))
+    let on_trace = c.in-Ok-false.ensures.on_trace base (talk_over_lines first (whole_input_lines (taken ++ p.0)))
     (unfinished_input_line (taken ++ p.0)) p.2.held_part
-    (line_told taken c.args.rest.now.now p.0 c.loop-piece.rest.now c.loop-piece.self.held p.1
+    (line_is_known taken c.args.rest.now.now p.0 c.loop-piece.rest.now c.loop-piece.self.held p.1
     (talk_holds_input_rest base first _ _ _ p.2)
     c.in-Some.piece.now c.in-Some.behind.now (sym c.in-Some.ensures) more base.files t) p.2.is_at in
     line_fed base first taken c.args.rest.now.now p.0 c.loop-piece.rest.now c.loop-piece.self.held
@@ -59,7 +59,7 @@ returns-then-is_long-clause-told g c = λ base first taken more t s.
     c.in-Some.behind.now (sym c.in-Some.ensures) c.end_line.new.self.held
     (session_now_of c.end_line.new.self.talk.said c.end_line.new.self.talk.session
     (g.F.Files.files c.end_line.new.files) c.end_line.new.steps)
-    (sym c.in-Ok-false.field-0-test ∙ told.0) told.1 told.2
+    (sym c.in-Ok-false.field-0-test ∙ on_trace.0) on_trace.1 on_trace.2
 
 pub loop-piece-preserved : goal.loop-piece-preserved
 loop-piece-preserved g c = record {
@@ -84,9 +84,9 @@ loop-piece-preserved g c = record {
       ∙ c.loop-piece.invariant.unasked taken more h none;
   fed = λ base first taken more t s.
       let p = c.loop-piece.invariant.fed base first taken more t s in
-      let told = c.in-Ok-false.ensures.told base (talk_over_lines first (whole_input_lines (taken ++ p.0)))
+      let on_trace = c.in-Ok-false.ensures.on_trace base (talk_over_lines first (whole_input_lines (taken ++ p.0)))
       (unfinished_input_line (taken ++ p.0)) p.2.held_part
-      (line_told taken c.args.rest.now.now p.0 c.loop-piece.rest.now c.loop-piece.self.held p.1
+      (line_is_known taken c.args.rest.now.now p.0 c.loop-piece.rest.now c.loop-piece.self.held p.1
       (talk_holds_input_rest base first _ _ _ p.2)
       c.in-Some.piece.now c.in-Some.behind.now (sym c.in-Some.ensures) more base.files t) p.2.is_at in
       line_fed base first taken c.args.rest.now.now p.0 c.loop-piece.rest.now c.loop-piece.self.held
@@ -96,11 +96,11 @@ loop-piece-preserved g c = record {
       c.in-Some.behind.now (sym c.in-Some.ensures) c.end_line.new.self.held
       (session_now_of c.end_line.new.self.talk.said c.end_line.new.self.talk.session
       (g.F.Files.files c.end_line.new.files) c.end_line.new.steps)
-      (sym c.in-Ok-false.field-0-test ∙ told.0) told.1 told.2;
+      (sym c.in-Ok-false.field-0-test ∙ on_trace.0) on_trace.1 on_trace.2;
 }
 
-pub returns-in-Ok-clause-told : goal.returns-in-Ok-clause-told
-returns-in-Ok-clause-told g c = λ base first taken more t s.
+pub returns-in-Ok-clause-on_trace : goal.returns-in-Ok-clause-on_trace
+returns-in-Ok-clause-on_trace g c = λ base first taken more t s.
     let p = c.loop-piece.invariant.fed base first taken more t s in (
       c.args.rest.now.now,
       sym (append-nil c.args.rest.now.now),
@@ -112,8 +112,8 @@ returns-in-Ok-clause-told g c = λ base first taken more t s.
           (c.in-Ok.ensures (unfinished_input_line (taken ++ p.0)) p.2.held_part),
     )
 
-pub returns-in-Err-add-clause-told : goal.returns-in-Err-add-clause-told
-returns-in-Err-add-clause-told g c = λ base first taken more t s.
+pub returns-in-Err-add-clause-on_trace : goal.returns-in-Err-add-clause-on_trace
+returns-in-Err-add-clause-on_trace g c = λ base first taken more t s.
     let p = c.loop-piece.invariant.fed base first taken more t s in
     rest_lost base first taken c.args.rest.now.now p.0 c.loop-piece.rest.now c.loop-piece.self.held
     (session_now_of c.loop-piece.self.talk.said c.loop-piece.self.talk.session (g.F.Files.files c.loop-piece.files)

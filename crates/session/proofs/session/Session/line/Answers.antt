@@ -48,10 +48,12 @@ returns-in-Save-clause-answer g c = λ m h.
     (λ reply. IsSessionLineReply reply (session_save_reply (saved_file d) c.in-Save.name.now) [] false))
     (c.deck.ensures.deck ∙ ap (λ (k : SessionState). k.table.deck) c.self.view_is) c.save.ensures.line)
     (subst
-    (λ (d : DeckContents). OnOk c.save.result ((told : FileMap) → g.F.Files.files c.args.files.now ≡ Some told
-    → g.F.Files.files c.save.new.files ≡ Some (files_after_session_save (saved_file d) c.in-Save.name.now told)))
+    (λ (d : DeckContents).
+    OnOk c.save.result ((files_if_known : FileMap) → g.F.Files.files c.args.files.now ≡ Some files_if_known
+    → g.F.Files.files c.save.new.files ≡ Some
+    (files_after_session_save (saved_file d) c.in-Save.name.now files_if_known)))
     (c.deck.ensures.deck ∙ ap (λ (k : SessionState). k.table.deck) c.self.view_is) c.save.ensures.saved)
-    c.save.ensures.untold)
+    c.save.ensures.if_unknown)
 
 pub returns-in_default-clause-answer : goal.returns-in_default-clause-answer
 returns-in_default-clause-answer g c = λ m h.

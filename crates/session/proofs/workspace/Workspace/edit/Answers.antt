@@ -20,4 +20,5 @@ returns-in_ok-report-in-Made-clause-said g c = λ m.
     (session_reports_edit_made _ c.in_ok-make_edit.field-0 _ _ c.in-Made.is (c.in_ok-make_edit.ensures {u = tt}).edit)
     report.queries
     c.report_changes.ensures.deck report.watched
-    (c.output_reply.ensures.out ∙ report.told (table_in old.table.deck) c.requires.parts.2) c.output_reply.ensures.err
+    (c.output_reply.ensures.out ∙ report.reported_changes (table_in old.table.deck) c.requires.parts.2)
+    c.output_reply.ensures.err

@@ -23,12 +23,14 @@ returns-in_ok-notices-in-Ok-clause-said g c = λ m files.
     let report = c.in_ok-report-in-Ok.ensures {u = tt} in
     made_answered (session_edit_result outcome c.args.name.now was) (notice_lines outcome) old.options old.pending m
     old.table
-    old.history (map subject_of_watch old.watches) _ c.append_file.new.table c.report_changes.new.table c.append_file.new.history
+    old.history (map subject_of_watch old.watches) _ c.append_file.new.table c.report_changes.new.table
+    c.append_file.new.history
     (map subject_of_watch c.report_changes.new.watches) c.args.steps.now c.report_changes.new.steps
     (session_edit_is_made c.histories_are_timelines.ensures outcome c.args.name.now old.table c.append_file.new.table
     old.history
-    c.append_file.new.history made c.in-Ok.ensures.ok c.in-Ok.ensures.noted) report.queries c.report_changes.ensures.deck
-    report.watched (report.told (table_in old.table.deck) c.requires.parts.2)
+    c.append_file.new.history made c.in-Ok.ensures.ok c.in-Ok.ensures.noted) report.queries
+    c.report_changes.ensures.deck
+    report.watched (report.reported_changes (table_in old.table.deck) c.requires.parts.2)
     (c.from.ensures ∙ c.in_ok-notices-in-Ok.ensures {u = tt}
     ∙ ap (λ (d : DeckContents). session_lines_of_texts d.notices) (c.deck.ensures.deck ∙ c.report_changes.ensures.deck)
     ∙ ap notice_lines (sym made))
@@ -44,8 +46,9 @@ returns-in_ok-refusal_line-in-Err-clause-said g c = λ m files.
     old.table old.history (map subject_of_watch old.watches) c.output_reply.result
     (session_table_with_versions c.append_file.new.table c.append_file.new.history) c.args.steps.now
     (ap (λ o. session_edit_result o c.args.name.now was)
-    (session_load_refusal outcome c.in-Err.fault line.told (c.in-Err.ensures.known m files))
+    (session_load_refusal outcome c.in-Err.fault line.is_refusal (c.in-Err.ensures.known m files))
     ∙ ap Refused (sym (c.output_reply.ensures.out ∙ line.line)))
-    (equal_session_tables_and_versions old.table c.append_file.new.table old.history c.append_file.new.history c.in-Err.ensures.err
+    (equal_session_tables_and_versions old.table c.append_file.new.table old.history c.append_file.new.history
+    c.in-Err.ensures.err
     c.in-Err.ensures.noted)
     c.output_reply.ensures.err

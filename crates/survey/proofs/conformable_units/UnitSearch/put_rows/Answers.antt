@@ -10,7 +10,7 @@ use Rattle.deck.specs.Tables.{table_of_deck}
 use Rattle.live_table.specs.Calls.{AreLiveQueries}
 use Rattle.live_table.specs.TableView.{AreLiveEventsCutOff, IsAfterLiveEvents}
 use Rattle.live_table.specs.States.{LiveEvent}
-use Rattle.survey.specs.Conformable.{conforming_row, unit_queries, unit_worth}
+use Rattle.survey.specs.Conformable.{conforming_row, unit_queries, value_of_unit}
 use Rattle.survey.proofs.Places.{row_at, unit_queries_at}
 use Rattle.survey.proofs.ItemReports.{underway-cut, underway-follows, underway-next, underway-text}
 use Rattle.survey.proofs.UnitRows.{conformable-units-of-each-place}
@@ -42,7 +42,7 @@ returns-in_err-put_row_at-clause-queries g c =
     c.put_row_at.new.table c.args.steps.now c.put_row_at.new.steps) (sym p.1)
     (subst (λ (es : List LiveEvent). AreLiveEventsCutOff es c.args.table.now c.put_row_at.new.table c.args.steps.now
     c.put_row_at.new.steps)
-    (sym (conformable-units-of-each-place (λ (k : Key). (unit_worth (table_of_deck deck) k).events) deck
+    (sym (conformable-units-of-each-place (λ (k : Key). (value_of_unit (table_of_deck deck) k).events) deck
     c.args.self.now.places.now))
     (underway-cut (row_at deck c.args.self.now.from.now) (unit_queries_at deck) c.args.self.now.places.now
     c.loop-place.place-index c.args.rows.now.items c.loop-place.rows.items c.args.table.now c.loop-place.table
@@ -69,7 +69,7 @@ returns-clause-queries g c =
     let deck = c.args.table.now.deck in
     subst (λ (es : List LiveEvent). IsAfterLiveEvents es c.args.table.now c.loop-place.table c.args.steps.now
     c.loop-place.steps)
-    (sym (conformable-units-of-each-place (λ (k : Key). (unit_worth (table_of_deck deck) k).events) deck
+    (sym (conformable-units-of-each-place (λ (k : Key). (value_of_unit (table_of_deck deck) k).events) deck
     c.args.self.now.places.now))
     (underway-follows (row_at deck c.args.self.now.from.now) (unit_queries_at deck) c.args.self.now.places.now
     c.loop-place.place-index c.args.rows.now.items c.loop-place.rows.items c.args.table.now c.loop-place.table

@@ -10,11 +10,11 @@ use Rattle.tree_eval.proofs.scope.Scope.with_word.Goals as goal
 pub take_word-requires : goal.take_word-requires
 take_word-requires g c =
     let s = eval_word_at_place _ _ c.requires in
-    reported_eval_meaning_is_usable _ _ _ _ (c.in_ok-meaning.ensures.told s.0 s.1)
+    reported_eval_meaning_is_usable _ _ _ _ (c.in_ok-meaning.ensures.reports s.0 s.1)
 
-pub returns-clause-worth : goal.returns-clause-worth
-returns-clause-worth g c u at =
+pub returns-clause-value_or_fault : goal.returns-clause-value_or_fault
+returns-clause-value_or_fault g c u at =
     subst (λ (w : ValueOrFault). GivesValueOrFault (λ _. amount_of_held_value c.take_word.new.held) c.take_word.result
     (value_with_operand c.args.step (amount_of_held_value c.args.held.now) w))
-    (sym (reported_plain_word_value _ _ _ _ (option_copied c.args.self.now.arg) (c.in_ok-meaning.ensures.told u at)))
+    (sym (reported_plain_word_value _ _ _ _ (option_copied c.args.self.now.arg) (c.in_ok-meaning.ensures.reports u at)))
     c.take_word.ensures

@@ -10,15 +10,15 @@ use Rattle.units_run.specs.declared.status.Status.{Status}
 use Rattle.units_run.proofs.ColumnRuns.{converted, rows_same, stated_column_end_is_worked_run, steps_same}
 use Rattle.units_run.proofs.column_plan.ColumnPlan.convert_column.Goals as goal
 
-pub returns-in_default-clause-told : goal.returns-in_default-clause-told
-returns-in_default-clause-told g c = λ work m input files faults now stores later n q at fs. record {
+pub returns-in_default-clause-if_known : goal.returns-in_default-clause-if_known
+returns-in_default-clause-if_known g c = λ work m input files faults now stores later n q at fs. record {
   out = (0, omega arith, column_run_sink_grows_by_none (g.O.Sink.written c.args.out.now));
   err = subst (SinkGrowsByPrefix (g.E.Sink.written c.args.err.now) (g.E.Sink.written c.put_all.new.sink))
       (c.as_slice.ensures.value ∙ at.err) c.in_default.ensures.front;
 }
 
-pub returns-clause-told : goal.returns-clause-told
-returns-clause-told g c = λ work m input files faults now stores later n q at fs.
+pub returns-clause-if_known : goal.returns-clause-if_known
+returns-clause-if_known g c = λ work m input files faults now stores later n q at fs.
     let before : SessionOutside = record {
       input_left = g.S.Source.left c.args.src.now;
       out = g.O.Sink.written c.args.out.now;
@@ -49,7 +49,7 @@ returns-clause-told g c = λ work m input files faults now stores later n q at f
     (λ (rs : List ColumnRow). AreColumnRunRowsWritten rs c.run-end.result (g.O.Sink.written c.args.out.now)
     (g.O.Sink.written c.run-end.new.out))
     (rows_same work c.args.self n c.args.steps.now at input)
-    (c.run-end.ensures.told input q))
+    (c.run-end.ensures.if_known input q))
     (λ over.
     steps_same work c.args.self n c.args.steps.now at c.leaves_law.ensures input c.run-end.new.self.table
     c.run-end.new.steps

@@ -3,6 +3,6 @@ use Rattle.units_io.specs.FileMap.{file_of_name}
 use Rattle.units_io.specs.Memory.{FilesState}
 use Rattle.units_io.proofs.memory.files.MemFilesFiles.store.Goals as goal
 
-pub returns-then-contains-clause-told : goal.returns-then-contains-clause-told
-returns-then-contains-clause-told c =
+pub returns-then-contains-clause-if_known : goal.returns-then-contains-clause-if_known
+returns-then-contains-clause-if_known c =
     (c.self.inside.table, refl, λ other _. ap (λ (state : FilesState). file_of_name state.files other) c.self.view_is)

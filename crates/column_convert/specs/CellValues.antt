@@ -18,7 +18,7 @@ use Rattle.tree_eval.specs.Steps.{ValueOrFault, operand_step_value, negative_val
 use Rattle.tree_eval.specs.Value.{value}
 use Rattle.table_names.specs.Faults.{name_fault}
 use Rattle.table_names.specs.Meanings.{expansion}
-use Rattle.live_table.specs.Answers.{live_answer_of_worth, live_table_answer}
+use Rattle.live_table.specs.Answers.{live_answer_of_value, live_table_answer}
 use Rattle.live_table.specs.States.{AsksWords}
 use Rattle.live_table.specs.TableView.{IsAfterLiveEvents, LiveView}
 use Rattle.reply.specs.declared.options.Options.{Options}
@@ -31,31 +31,31 @@ use Rattle.column_convert.specs.Cells.{cell_options, number_queries, number_repl
 use Rattle.column_convert.specs.Products.{IsCellFactor, IsCellNumeral, cell_product_text, signed_cell_text}
 
 -- the value of a numeral, perhaps with a minus sign before it
-abbrev pub cell_number_worth : (negative : Bool) → NumeralDecimal → ValueOrFault
-cell_number_worth false x = value_of_number (fraction_of_decimal x)
-cell_number_worth true x = do
+abbrev pub cell_number_value : (negative : Bool) → NumeralDecimal → ValueOrFault
+cell_number_value false x = value_of_number (fraction_of_decimal x)
+cell_number_value true x = do
   v ← value_of_number (fraction_of_decimal x)
   Ok (negative_value v)
 
 -- the value of the product; the fault of the number comes first, then that of the expression, then that of their
 -- product
-abbrev pub cell_product_worth : (negative : Bool) → NumeralDecimal → ValueOrFault → ValueOrFault
-cell_product_worth negative x worth = do
-  v ← cell_number_worth negative x
-  w ← worth
+abbrev pub value_of_cell_product : (negative : Bool) → NumeralDecimal → ValueOrFault → ValueOrFault
+value_of_cell_product negative x value_or_fault = do
+  v ← cell_number_value negative x
+  w ← value_or_fault
   operand_step_value Multiply v w
 
 -- the value of the product by query: the names of the expression are queried, and their fault comes first
 abbrev pub cell_product_inquiry : EntryTable → (negative : Bool) → NumeralDecimal → Syntax → Inquiry Amount
 cell_product_inquiry table negative x from = record {
   events = AsksWords (words_in from) ∷ [];
-  answer = inquiry_answer (live_answer_of_worth (name_fault table (words_in from))
-      (cell_product_worth negative x (value (expansion table from) None)));
+  answer = inquiry_answer (live_answer_of_value (name_fault table (words_in from))
+      (value_of_cell_product negative x (value (expansion table from) None)));
 }
 
 -- law: the reply to the conversion of a number times an expression follows from the value of the expression
-abbrev pub CellWorthLaw : Type 0
-CellWorthLaw = (table : EntryTable) (options : Options) (negative : Bool) (text : List ℕ) (x : NumeralDecimal)
+abbrev pub CellValueLaw : Type 0
+CellValueLaw = (table : EntryTable) (options : Options) (negative : Bool) (text : List ℕ) (x : NumeralDecimal)
     (from : List ℕ)
     (f : Syntax) (to : List ℕ) → IsCellNumeral text x → IsCellFactor negative from f
     → conversion_inquiry table options (cell_product_text (signed_cell_text negative text) from) to
@@ -80,7 +80,7 @@ CellReplyLaw = (table : EntryTable) (options : Options) (negative : Bool) (text 
     (from to : List ℕ)
     (f g : Syntax) (x y p : Amount) → IsCellNumeral text d → IsCellFactor negative from f
     → AreColumnTextsValued table from to f g x y
-    → cell_product_worth negative d (Ok x) ≡ Ok p
+    → value_of_cell_product negative d (Ok x) ≡ Ok p
     → (number_reply table options from to (signed_cell_text negative text)
     ≡ conversion_result_as_reply (reply_form (cell_options options))
     (trimmed_of_blanks (cell_product_text (signed_cell_text negative text) from))

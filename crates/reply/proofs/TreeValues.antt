@@ -15,7 +15,7 @@ use Rattle.reply.specs.declared.failure.Failure.{Failure}
 use Rattle.reply.specs.declared.failure.Failure.TheVariants.{Fault, OutOfMemory}
 use Rattle.reply.specs.declared.fault.ReplyFault.{ReplyFault}
 use Rattle.reply.specs.Calls.{IsInquiryAnswered, inquiry_identity}
-use Rattle.reply.specs.Inquiries.{Inquiry, inquiry_after, inquiry_without_queries, tree_value, worths}
+use Rattle.reply.specs.Inquiries.{Inquiry, inquiry_after, inquiry_without_queries, tree_value, values_of_trees}
 use Rattle.reply.proofs.Fronts.{inquiry_front-none, with_front}
 
 -- an inquiry after these queries, with these values before its result
@@ -27,7 +27,7 @@ pub record IsUnderway (t : EntryTable) (trees rest : List Syntax) (values : List
     (n m : ℕ) : Type 0
   where
     pub events : List LiveEvent
-    pub whole : worths t trees ≡ behind events values (worths t rest)
+    pub whole : values_of_trees t trees ≡ behind events values (values_of_trees t rest)
     pub deck : b.deck ≡ a.deck
     pub follows : IsAfterLiveEvents events a b n m
 
@@ -36,7 +36,11 @@ pub inquiry-underway-at-start : (t : EntryTable) (trees : List Syntax) (a : Live
     → IsUnderway t trees trees [] a a n n
 inquiry-underway-at-start t trees a n right = record {
   events = [];
-  whole = λ i. record { events = (worths t trees).events; answer = sym (inquiry_front-none (worths t trees).answer) i };
+  whole = λ i. record {
+    events = (values_of_trees t trees).events;
+    answer =
+        sym (inquiry_front-none (values_of_trees t trees).answer) i;
+  };
   deck = refl;
   follows = no_live_events_keep_view a n right;
 }
@@ -62,7 +66,7 @@ module _ (t : EntryTable) (trees rest : List Syntax) (tree : Syntax) (values : L
 
   -- the whole inquiry, by the result for the next tree
   abbrev whole_by : Result Amount ReplyFault → Inquiry (List Amount)
-  whole_by said = behind u.events values (inquiry_after (event ∷ []) said (onto (worths t rest)))
+  whole_by said = behind u.events values (inquiry_after (event ∷ []) said (onto (values_of_trees t rest)))
 
   -- the next tree has a value
   pub underway-next : (x : Amount) → IsInquiryAnswered inquiry_identity (tree_value t tree) (Ok x) b c m k
@@ -71,7 +75,8 @@ module _ (t : EntryTable) (trees rest : List Syntax) (tree : Syntax) (values : L
     events = u.events ++ event ∷ [];
     whole =
         u.whole
-        ∙ (ap whole_by h.0 ∙ more u.events values event x (worths t rest).events (worths t rest).answer);
+        ∙ (ap whole_by h.0 ∙ more u.events values event x (values_of_trees t rest).events
+        (values_of_trees t rest).answer);
     deck = same_deck ∙ u.deck;
     follows = live_event_runs_in_turn u.events (event ∷ []) a b c n m k u.follows h.1;
   }
@@ -79,7 +84,7 @@ module _ (t : EntryTable) (trees rest : List Syntax) (tree : Syntax) (values : L
   -- the next tree has no value
   pub underway-failed : {A : Type 0} (seen : A → List Amount) (failure : Failure)
       → IsInquiryAnswered inquiry_identity (tree_value t tree) (Err failure) b c m k
-      → IsInquiryAnswered seen (worths t trees) (Err failure) a c
+      → IsInquiryAnswered seen (values_of_trees t trees) (Err failure) a c
       n
       k
   underway-failed seen failure h =
@@ -88,7 +93,7 @@ module _ (t : EntryTable) (trees rest : List Syntax) (tree : Syntax) (values : L
       cut : (said : Result Amount ReplyFault) → AreLiveEventsCutOff (event ∷ []) b c m k
           → AreLiveEventsCutOff (whole_by said).events a c n k
       cut (Ok x) q =
-          live_events_cut_off_in_midst u.events (event ∷ []) (onto (worths t rest) x).events a b c n m k u.deck
+          live_events_cut_off_in_midst u.events (event ∷ []) (onto (values_of_trees t rest) x).events a b c n m k u.deck
           u.follows q
       cut (Err fault) q = live_event_run_law.cut_behind u.events (event ∷ []) a b c n m k u.deck u.follows q
 
@@ -103,7 +108,7 @@ module _ (t : EntryTable) (trees rest : List Syntax) (tree : Syntax) (values : L
 module _ {A : Type 0} (seen : A → List Amount) (t : EntryTable) (trees : List Syntax) (a b : LiveView) (n m : ℕ) where
   -- memory runs out between two trees
   pub underway-stopped : (rest : List Syntax) (values : List Amount) → IsUnderway t trees rest values a b n m
-      → IsInquiryAnswered seen (worths t trees) (Err OutOfMemory) a b n m
+      → IsInquiryAnswered seen (values_of_trees t trees) (Err OutOfMemory) a b n m
   underway-stopped rest values u =
       subst (λ (w : Inquiry (List Amount)). AreLiveEventsCutOff w.events a b n m) (sym u.whole)
-      (live_event_run_law.cut_between u.events (worths t rest).events a b n m u.deck u.follows)
+      (live_event_run_law.cut_between u.events (values_of_trees t rest).events a b n m u.deck u.follows)

@@ -1,5 +1,5 @@
 use Rattle.column_convert.proofs.Replies.{product_converting}
-use Rattle.column_convert.proofs.laws.worth_law.Goals as goal
+use Rattle.column_convert.proofs.laws.cell_value_law.Goals as goal
 
 pub returns : goal.returns
 returns c = λ table options negative text x from f to a d. product_converting table options negative x d.decimal text

@@ -13,7 +13,7 @@ use Rattle.deck.specs.Tables.{table_of_deck}
 use Rattle.name_walk.specs.declared.step.Step.{Step}
 use Rattle.name_walk.specs.declared.step.Step.TheVariants.{To}
 use Rattle.name_walk.specs.ClosedNames.{IsSettledInGraph}
-use Rattle.tree_eval.specs.declared.meaning.Meaning.TheVariants as told
+use Rattle.tree_eval.specs.declared.meaning.Meaning.TheVariants as reports
 use Rattle.tree_eval.specs.declared.outcome.Outcome.{Outcome}
 use Rattle.tree_eval.specs.declared.outcome.Outcome.TheVariants as outcomes
 use Rattle.tree_eval.specs.Entries.{evaluated_alias, evaluated_meaning}
@@ -51,9 +51,9 @@ settled_number_has_set_mark settled n h = ap (λ o. unwrap_or o false) h
 
 -- ---- the meanings that a key may have
 -- an outcome of an expression is never that of a function
-pub cached_worth_is_not_callable : (w : ValueOrFault) → outcome_of_value w ≡ outcomes.Callable → ⊥
-cached_worth_is_not_callable (Ok q) e = cc
-cached_worth_is_not_callable (Err fault) e = cc
+pub cached_value_is_not_callable : (w : ValueOrFault) → outcome_of_value w ≡ outcomes.Callable → ⊥
+cached_value_is_not_callable (Ok q) e = cc
+cached_value_is_not_callable (Err fault) e = cc
 
 -- equal lists have one first member
 pub first_same : {A : Type 0} (x y : A) (xs ys : List A) → x ∷ xs ≡ y ∷ ys → x ≡ y
@@ -159,14 +159,14 @@ module _ (v : NodeScene) (u : WordUse) (n m : ℕ) (led : IsWordLedToSettled v u
   pub stands : StandsForTargets (table_of_deck v.deck) u
   stands = meaning_kind_law.words (table_of_deck v.deck) (live_deck_entries_fit_kinds v.deck) u led.word_leads
 
-  pub told_two : (n ≡ m → ⊥) → (a b : Bor Outcome) → a.now ≡ outcome (table_of_deck v.deck) first_key
+  pub two_are_reported : (n ≡ m → ⊥) → (a b : Bor Outcome) → a.now ≡ outcome (table_of_deck v.deck) first_key
       → b.now ≡ outcome (table_of_deck v.deck) second_key
-      → IsReportedEvalMeaning (has_node_callee v) (node_callee_at v) (node_word_meaning v u) (told.Two a b)
-  told_two apart a b e f = elim led.single_target [ inl h ↦ absurd (apart h.1) | inr t ↦ by t stands ]
+      → IsReportedEvalMeaning (has_node_callee v) (node_callee_at v) (node_word_meaning v u) (reports.Two a b)
+  two_are_reported apart a b e f = elim led.single_target [ inl h ↦ absurd (apart h.1) | inr t ↦ by t stands ]
     where
       by : table_word_targets (table_of_deck v.deck) u ≡ first_key ∷ second_key ∷ []
           → StandsForTargets (table_of_deck v.deck) u
-          → IsReportedEvalMeaning (has_node_callee v) (node_callee_at v) (node_word_meaning v u) (told.Two a b)
+          → IsReportedEvalMeaning (has_node_callee v) (node_callee_at v) (node_word_meaning v u) (reports.Two a b)
       by t (ForOne k q means) = absurd (not_both k first_key second_key (sym q ∙ t))
       by t (ForTwo k j x y q prefix unit kx jy means) = (
         x,
@@ -210,15 +210,15 @@ module _ (v : NodeScene) (u : WordUse) (n m : ℕ) (led : IsWordLedToSettled v u
       (led.word_leads.into first_key first_in)
 
   module _ (same : n ≡ m) (a : Bor Outcome) (e : a.now ≡ outcome (table_of_deck v.deck) first_key) where
-    pub told_function : a.now ≡ outcomes.Callable → IsReportedEvalMeaning (has_node_callee v) (node_callee_at v)
+    pub function_is_reported : a.now ≡ outcomes.Callable → IsReportedEvalMeaning (has_node_callee v) (node_callee_at v)
         (node_word_meaning v u)
-        (told.Function n)
-    told_function c = by (key_meaning (table_of_deck v.deck) first_key) refl
+        (reports.Function n)
+    function_is_reported c = by (key_meaning (table_of_deck v.deck) first_key) refl
       where
         by : (x : EvalMeaning) → key_meaning (table_of_deck v.deck) first_key ≡ x
-            → IsReportedEvalMeaning (has_node_callee v) (node_callee_at v) (node_word_meaning v u) (told.Function n)
+            → IsReportedEvalMeaning (has_node_callee v) (node_callee_at v) (node_word_meaning v u) (reports.Function n)
         by (One x) q = absurd
-            (cached_worth_is_not_callable (value x None) (sym (ap outcome_of_eval_meaning q) ∙ (sym e ∙ c)))
+            (cached_value_is_not_callable (value x None) (sym (ap outcome_of_eval_meaning q) ∙ (sym e ∙ c)))
         by (Two x y) q = let z : false ≡ true = sym (ap (table_name_may_mean first_key.kind) q) ∙ target_means in cc
         by (Callee f) q = (
           and_from (is_settled v n) (is_node_callee (node_number_meaning v n))
@@ -227,13 +227,13 @@ module _ (v : NodeScene) (u : WordUse) (n m : ℕ) (led : IsWordLedToSettled v u
           word_is same ∙ node_callee_is_its_meaning (node_number_meaning v n) (ap is_node_callee q),
         )
 
-    pub told_one : (a.now ≡ outcomes.Callable → ⊥) → IsReportedEvalMeaning (has_node_callee v) (node_callee_at v)
+    pub one_is_reported : (a.now ≡ outcomes.Callable → ⊥) → IsReportedEvalMeaning (has_node_callee v) (node_callee_at v)
         (node_word_meaning v u)
-        (told.One a)
-    told_one c = by (key_meaning (table_of_deck v.deck) first_key) refl
+        (reports.One a)
+    one_is_reported c = by (key_meaning (table_of_deck v.deck) first_key) refl
       where
         by : (x : EvalMeaning) → key_meaning (table_of_deck v.deck) first_key ≡ x
-            → IsReportedEvalMeaning (has_node_callee v) (node_callee_at v) (node_word_meaning v u) (told.One a)
+            → IsReportedEvalMeaning (has_node_callee v) (node_callee_at v) (node_word_meaning v u) (reports.One a)
         by (One x) q = (x, word_is same ∙ q, e ∙ ap outcome_of_eval_meaning q)
         by (Two x y) q = let z : false ≡ true = sym (ap (table_name_may_mean first_key.kind) q) ∙ target_means in cc
         by (Callee f) q = absurd (c (e ∙ ap outcome_of_eval_meaning q))
