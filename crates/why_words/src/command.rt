@@ -3,50 +3,49 @@
 use clap::{Arg, ArgAction, Command};
 use std::alloc::{AllocError, Global};
 
-/// Returns the command with all its arguments. It has no arguments for help and the version.
+/// How an argument is written: as a flag, as an option with a letter, or as a word of its own.
+#[derive(Clone, Copy)]
+enum Form {
+    Flag,
+    Option(char),
+    Operand,
+}
+
+const ARGUMENTS: &[(&str, Form)] = &[
+    ("file", Form::Option('f')),
+    ("locale", Form::Option('l')),
+    ("digits", Form::Option('d')),
+    ("exact", Form::Flag),
+    ("json", Form::Flag),
+    ("lint", Form::Flag),
+    ("captures", Form::Flag),
+    ("unused", Form::Flag),
+    ("expression", Form::Operand),
+    ("unit", Form::Operand),
+];
+
+/// Returns the command with all its arguments.
 pub(crate) fn why_command<'a>(alloc: Global) -> Result<Command<'a>, AllocError> {
-    let command = Command::new(alloc, "units-why")
+    let mut command = bare_command(alloc);
+    for (name, form) in ARGUMENTS {
+        command = command.arg(argument(alloc, *name, *form))?;
+    }
+    Ok(command)
+}
+
+/// Returns the command without arguments. It accepts no words for help or for the version.
+fn bare_command<'a>(alloc: Global) -> Command<'a> {
+    Command::new(alloc, "units-why")
         .no_binary_name(true)
         .disable_help_flag(true)
-        .disable_version_flag(true);
-    let command = with_option(alloc, command, "file", 'f')?;
-    let command = with_option(alloc, command, "locale", 'l')?;
-    let command = with_option(alloc, command, "digits", 'd')?;
-    let command = with_flag(alloc, command, "exact")?;
-    let command = with_flag(alloc, command, "json")?;
-    let command = with_flag(alloc, command, "lint")?;
-    let command = with_flag(alloc, command, "captures")?;
-    let command = with_flag(alloc, command, "unused")?;
-    let command = with_operand(alloc, command, "expression")?;
-    with_operand(alloc, command, "unit")
+        .disable_version_flag(true)
 }
 
-fn with_option<'a>(
-    alloc: Global,
-    command: Command<'a>,
-    name: &'a str,
-    letter: char,
-) -> Result<Command<'a>, AllocError> {
-    command.arg(
-        Arg::new(alloc, name)
-            .long(name)
-            .short(letter)
-            .action(ArgAction::Set),
-    )
-}
-
-fn with_flag<'a>(
-    alloc: Global,
-    command: Command<'a>,
-    name: &'a str,
-) -> Result<Command<'a>, AllocError> {
-    command.arg(Arg::new(alloc, name).long(name).action(ArgAction::SetTrue))
-}
-
-fn with_operand<'a>(
-    alloc: Global,
-    command: Command<'a>,
-    name: &'a str,
-) -> Result<Command<'a>, AllocError> {
-    command.arg(Arg::new(alloc, name).action(ArgAction::Set))
+fn argument<'a>(alloc: Global, name: &'a str, form: Form) -> Arg<'a> {
+    let argument = Arg::new(alloc, name);
+    match form {
+        Form::Flag => argument.long(name).action(ArgAction::SetTrue),
+        Form::Option(letter) => argument.long(name).short(letter).action(ArgAction::Set),
+        Form::Operand => argument.action(ArgAction::Set),
+    }
 }

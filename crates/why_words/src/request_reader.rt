@@ -7,8 +7,8 @@ ghost use Rattle.why_words.specs.Usage as usage;
 use crate::command::why_command;
 use crate::fault::WordsFault;
 use crate::request::{Findings, Inquiry, Request};
-use clap::ArgMatches;
 use clap::error::ErrorKind;
+use clap::{ArgMatches, Error};
 use std::alloc::{AllocError, Global};
 use units_io::Text;
 
@@ -26,14 +26,8 @@ pub fn read_words(alloc: Global, words: &[Text]) -> Result<Request, WordsFault>
     ensures { IfOk result HasWhyDigits }
 {
     let texts = texts_of(alloc, words)?;
-    let mut command = why_command(alloc)?;
-    match command.try_get_matches_from_mut(texts.as_slice()) {
-        Ok(matches) => request_of(alloc, &matches),
-        Err(error) => match error.kind() {
-            ErrorKind::OutOfMemory => Err(WordsFault::OutOfMemory),
-            _ => Err(WordsFault::Usage),
-        },
-    }
+    let matches = matches_of(alloc, texts.as_slice())?;
+    request_of(alloc, &matches)
 }
 
 // Returns the words as strings. The error is `Usage` if a word is not UTF-8.
@@ -48,6 +42,21 @@ fn texts_of<'w>(alloc: Global, words: &'w [Text]) -> Result<Vec<&'w str>, WordsF
     Ok(texts)
 }
 
+// Returns the matches of the program's command in these words.
+fn matches_of<'a>(alloc: Global, words: &'a [&'a str]) -> Result<ArgMatches<'a>, WordsFault> {
+    match why_command(alloc)?.try_get_matches_from(words) {
+        Ok(matches) => Ok(matches),
+        Err(error) => Err(fault_from(&error)),
+    }
+}
+
+fn fault_from(error: &Error) -> WordsFault {
+    match error.kind() {
+        ErrorKind::OutOfMemory => WordsFault::OutOfMemory,
+        _ => WordsFault::Usage,
+    }
+}
+
 // Returns the request that the matches describe.
 fn request_of(alloc: Global, matches: &ArgMatches<'_>) -> Result<Request, WordsFault>
     ensures { IfOk result HasWhyDigits }
@@ -55,16 +64,12 @@ fn request_of(alloc: Global, matches: &ArgMatches<'_>) -> Result<Request, WordsF
     let file = text_of(alloc, matches, "file")?;
     let locale = text_of(alloc, matches, "locale")?;
     let inquiry = inquiry_of(alloc, matches)?;
-    let exact = has_flag(matches, "exact");
     let digits = digits_of(matches)?;
-    if exact && digits.is_some() {
-        return Err(WordsFault::Usage);
-    }
     Ok(Request {
         file,
         locale,
         digits,
-        exact,
+        exact: has_flag(matches, "exact"),
         json: has_flag(matches, "json"),
         inquiry,
     })
@@ -86,7 +91,8 @@ fn inquiry_of(alloc: Global, matches: &ArgMatches<'_>) -> Result<Inquiry, WordsF
     }
 }
 
-// Returns the number of digits, if it is given. The error is `Usage` if it is not from 1 to 36.
+// Returns the number of digits, if it is given. The error is `Usage` if it is not from 1 to 36, or `--exact` is given
+// too.
 fn digits_of(matches: &ArgMatches<'_>) -> Result<Option<u8>, WordsFault>
     ensures { IfOk result (λ digits. IfSome digits (λ n. (1 ≤ n) × (n ≤ 36))) }
 {
@@ -94,8 +100,8 @@ fn digits_of(matches: &ArgMatches<'_>) -> Result<Option<u8>, WordsFault>
         return Ok(None);
     };
     match text.parse::<u8>() {
-        Ok(digits) => digits_within(digits),
-        Err(_) => Err(WordsFault::Usage),
+        Ok(digits) if !has_flag(matches, "exact") => digits_within(digits),
+        _ => Err(WordsFault::Usage),
     }
 }
 
