@@ -1,5 +1,5 @@
 mod FirstValue
-mod Flags
+mod Arguments
 mod Ranges
 mod Simple
 mod TakenLemmas

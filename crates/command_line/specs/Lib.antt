@@ -1,4 +1,5 @@
 pub mod Rules
+pub mod Arguments
 pub mod Definition
 pub mod Numbers
 pub mod Fields
