@@ -11,6 +11,7 @@ enum Form {
     Operand,
 }
 
+/// The names and forms of the arguments.
 const ARGUMENTS: &[(&str, Form)] = &[
     ("file", Form::Option('f')),
     ("locale", Form::Option('l')),
@@ -41,6 +42,7 @@ fn bare_command<'a>(alloc: Global) -> Command<'a> {
         .disable_version_flag(true)
 }
 
+/// Returns the argument with this name and form.
 fn argument<'a>(alloc: Global, name: &'a str, form: Form) -> Arg<'a> {
     let argument = Arg::new(alloc, name);
     match form {
