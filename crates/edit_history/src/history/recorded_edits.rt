@@ -64,7 +64,6 @@ impl History {
             result }
         ensures noted { calls.IsEditRecorded self.old self.new table.old.deck table.new.deck result }
     {
-        splices_are_undone();
         stack::make_room(&mut self.done)?;
         table.deck().lines_closed();
         let Some(at) = table.deck().last_place(key) else {
@@ -73,6 +72,7 @@ impl History {
         let put = table.deck().lines_from(alloc, at, 1)?;
         let step = BoxedExchange::new(alloc, LineExchange { at, cut: 0, put })?;
         table.drop_last(alloc, key)?;
+        splices_are_undone();
         stack::put(&mut self.done, Step::Exchange(step));
         self.undone.clear();
         Ok(())
