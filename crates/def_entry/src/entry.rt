@@ -29,7 +29,6 @@ impl<'a> Entry<'a> {
 }
 
 /// The meaning of a key.
-#[derive(Drop)]
 pub enum What {
     /// A unit that no other unit defines.
     Primitive,
@@ -47,8 +46,22 @@ pub enum What {
     ListOf(Trees),
 }
 
+// Written by hand, so that code that drops a meaning need not prove anything about each kind of it.
+impl Drop for What {
+    fn drop(self) {
+        match self {
+            What::Primitive
+            | What::Dimensionless
+            | What::Body(_)
+            | What::Function(_)
+            | What::Alias(_)
+            | What::Table(_)
+            | What::ListOf(_) => (),
+        }
+    }
+}
+
 /// A function by expressions.
-#[derive(Drop)]
 pub struct FunctionDef {
     /// The unit of the argument.
     pub in_unit: Option<Tree>,
@@ -62,6 +75,20 @@ pub struct FunctionDef {
     pub forward: Tree,
     /// The argument in terms of the result.
     pub inverse: Option<Tree>,
+}
+
+// Written by hand, so that code that drops a function need not prove anything about its contents.
+impl Drop for FunctionDef {
+    fn drop(self) {
+        let FunctionDef {
+            in_unit: _,
+            out_unit: _,
+            domain: _,
+            range: _,
+            forward: _,
+            inverse: _,
+        } = self;
+    }
 }
 
 /// An interval of numbers.
@@ -83,10 +110,16 @@ pub struct Bound {
 }
 
 /// A function by a table of points.
-#[derive(Drop)]
 pub struct TableDef {
     /// The unit of the results.
     pub unit: Tree,
     /// The points. Their results are numbers in the unit.
     pub points: Points,
+}
+
+// Written by hand, so that code that drops a table need not prove anything about its contents.
+impl Drop for TableDef {
+    fn drop(self) {
+        let TableDef { unit: _, points: _ } = self;
+    }
 }

@@ -9,9 +9,15 @@ use std::alloc::{AllocError, Global};
 use std::marker::Model;
 
 /// An ordered list of lines, from which a line is removed without moving the others.
-#[derive(Drop)]
 pub struct Lines {
     list: GapList<Line>,
+}
+
+// Written by hand, so that code that drops a list of lines need not prove anything about its contents.
+impl Drop for Lines {
+    fn drop(self) {
+        let Lines { list: _ } = self;
+    }
 }
 
 impl Model for Lines {
@@ -74,7 +80,8 @@ impl Lines {
     pub fn into_vec(self) -> Vec<Line>
         ensures { result.items ≡ self }
     {
-        self.list.into_vec()
+        let Lines { list } = self;
+        list.into_vec()
     }
 }
 

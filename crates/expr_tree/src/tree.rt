@@ -16,7 +16,6 @@ const USUAL_MEMBERS: usize = 2;
 /// The tree of an expression.
 // Rare variants are boxed, which keeps a tree as small as its `Word` variant.
 #[cycle(tree)]
-#[derive(Drop)]
 pub enum Tree {
     /// A numeral.
     Number(Numeral),
@@ -46,6 +45,28 @@ pub enum Tree {
     Sum(Terms),
 }
 
+// Written by hand, so that code that drops a tree need not prove anything about its contents.
+impl Drop for Tree {
+    #[cycle(tree)]
+    fn drop(self) {
+        match self {
+            Tree::Number(_)
+            | Tree::Bar(_)
+            | Tree::Word(_)
+            | Tree::Argument
+            | Tree::Call(_, _)
+            | Tree::Inverse(_, _)
+            | Tree::Root(_, _)
+            | Tree::Group(_)
+            | Tree::Negate(_)
+            | Tree::Power(_, _)
+            | Tree::Juxtaposed(_)
+            | Tree::Product(_)
+            | Tree::Sum(_) => (),
+        }
+    }
+}
+
 /// A fraction of two numerals.
 #[derive(Clone, Copy, Drop)]
 pub struct Quotient {
@@ -57,23 +78,44 @@ pub struct Quotient {
 
 /// A list of trees, in order.
 #[cycle(tree)]
-#[derive(Drop)]
 pub struct Trees {
     pub(crate) items: Vec<Tree>,
 }
 
+// Written by hand, so that code that drops a list of trees need not prove anything about its contents.
+impl Drop for Trees {
+    #[cycle(tree)]
+    fn drop(self) {
+        let Trees { items: _ } = self;
+    }
+}
+
 /// The members of a product, in order. Each multiplies or divides.
 #[cycle(tree)]
-#[derive(Drop)]
 pub struct Factors {
     pub(crate) items: Vec<(Scale, Tree)>,
 }
 
+// Written by hand, so that code that drops the members of a product need not prove anything about them.
+impl Drop for Factors {
+    #[cycle(tree)]
+    fn drop(self) {
+        let Factors { items: _ } = self;
+    }
+}
+
 /// The members of a sum, in order, each with its sign.
 #[cycle(tree)]
-#[derive(Drop)]
 pub struct Terms {
     pub(crate) items: Vec<(Sign, Tree)>,
+}
+
+// Written by hand, so that code that drops the members of a sum need not prove anything about them.
+impl Drop for Terms {
+    #[cycle(tree)]
+    fn drop(self) {
+        let Terms { items: _ } = self;
+    }
 }
 
 impl Trees {

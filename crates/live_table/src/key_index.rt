@@ -14,11 +14,17 @@ use std::marker::Model;
 use units_io::{HashSeed, Text};
 
 /// Keys in insertion order. The number of a key is the number of keys before it.
-#[derive(Drop)]
 pub(crate) struct KeyIndex {
     keys: IndexSet<StoredKey, HashSeed>,
     // the key that was looked up last, with room for the longest of all keys, so that a lookup allocates no memory
     wanted: StoredKey,
+}
+
+// Written by hand, so that code that drops a key index need not prove anything about its contents.
+impl Drop for KeyIndex {
+    fn drop(self) {
+        let KeyIndex { keys: _, wanted: _ } = self;
+    }
 }
 
 /// The number of a key, and whether the key is new.

@@ -11,11 +11,17 @@ use std::marker::Model;
 
 /// The keys that the lookup of one word tries, in order. The memory is reused from one word to the next. No key gets a
 /// number here.
-#[derive(Drop)]
 pub struct TriedKeys {
     // the names, one after another
     names: Vec<u8>,
     keys: Vec<TriedKey>,
+}
+
+// Written by hand, so that code that drops tried keys need not prove anything about their contents.
+impl Drop for TriedKeys {
+    fn drop(self) {
+        let TriedKeys { names: _, keys: _ } = self;
+    }
 }
 
 // The kind of a key, and the range of its name.

@@ -23,9 +23,15 @@ const MOST: usize = 1_000;
 type Point = (Frac, Frac);
 
 /// From 2 to 1,000 points, each an x and its y, with strictly increasing x.
-#[derive(Drop)]
 pub struct Points {
     points: Vec<Point>,
+}
+
+// Written by hand, so that code that drops a list of points need not prove anything about its contents.
+impl Drop for Points {
+    fn drop(self) {
+        let Points { points: _ } = self;
+    }
 }
 
 impl Model for Points {

@@ -42,7 +42,7 @@ impl Quantity {
             (spec.power_exponents self.exponents degree.now)) }
     {
         let value = power_of_root(&self.value, degree)?;
-        let powers = self.powers.into_power(alloc, degree)?;
+        let powers = self.into_powers().into_power(alloc, degree)?;
         Ok(Quantity { value, powers })
     }
 }

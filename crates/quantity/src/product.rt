@@ -32,7 +32,9 @@ impl Quantity {
         ensures { IsQuantityAnswer result (quantity_product self other.now) }
     {
         let value = self.value.mul(&other.value)?;
-        let powers = self.powers.times(alloc, &other.powers, Factor::Plain)?;
+        let powers = self
+            .into_powers()
+            .times(alloc, &other.powers, Factor::Plain)?;
         Ok(Quantity { value, powers })
     }
 
@@ -41,7 +43,9 @@ impl Quantity {
         ensures { IsQuantityAnswer result (quantity_quotient self other.now) }
     {
         let value = self.value.div(&other.value)?;
-        let powers = self.powers.times(alloc, &other.powers, Factor::Inverse)?;
+        let powers = self
+            .into_powers()
+            .times(alloc, &other.powers, Factor::Inverse)?;
         Ok(Quantity { value, powers })
     }
 
@@ -50,7 +54,7 @@ impl Quantity {
         ensures { IsQuantityAnswer result (quantity_product self other) }
     {
         let value = self.value.mul(&other.value)?;
-        let powers = self.powers.times_all(alloc, other.powers)?;
+        let powers = self.into_powers().times_all(alloc, other.into_powers())?;
         Ok(Quantity { value, powers })
     }
 
@@ -63,7 +67,7 @@ impl Quantity {
         let value = self.value.mul(x)?;
         Ok(Quantity {
             value,
-            powers: self.powers,
+            powers: self.into_powers(),
         })
     }
 
@@ -76,7 +80,7 @@ impl Quantity {
         let value = self.value.div(x)?;
         Ok(Quantity {
             value,
-            powers: self.powers,
+            powers: self.into_powers(),
         })
     }
 }

@@ -14,10 +14,19 @@ use std::marker::Model;
 
 /// A fraction with the exponents of primitive names. Contracts see the fraction and a finite map from the bytes of
 /// each name to its exponent, which is never 0.
-#[derive(Drop)]
 pub struct Quantity {
     pub(crate) value: Frac,
     pub(crate) powers: Powers,
+}
+
+// Written by hand, so that code that drops a quantity need not prove anything about its contents.
+impl Drop for Quantity {
+    fn drop(self) {
+        let Quantity {
+            value: _,
+            powers: _,
+        } = self;
+    }
 }
 
 impl Model for Quantity {
@@ -82,10 +91,19 @@ impl Quantity {
     pub fn into_negative(self) -> Quantity
         ensures { result ≡ record self { value = opposite_fraction self.value } }
     {
+        let Quantity { value, powers } = self;
         Quantity {
-            value: self.value.negate(),
-            powers: self.powers,
+            value: value.negate(),
+            powers,
         }
+    }
+
+    // Converts the quantity into its powers without copying.
+    pub(crate) fn into_powers(self) -> Powers
+        ensures { result ≡ self.exponents }
+    {
+        let Quantity { value: _, powers } = self;
+        powers
     }
 
     /// Returns the number, which is in lowest terms and fits.

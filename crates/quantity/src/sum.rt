@@ -57,7 +57,7 @@ impl Quantity {
         let value = number?;
         Ok(Quantity {
             value,
-            powers: self.powers,
+            powers: self.into_powers(),
         })
     }
 }

@@ -23,7 +23,6 @@ use unit_list::Fracs;
 use units_io::{Steps, Text};
 
 /// The result of a conversion, before it is written.
-#[derive(Drop)]
 pub(crate) enum Conversion {
     /// How often TO goes into FROM, and how often FROM goes into TO.
     Linear(Ratio),
@@ -35,6 +34,19 @@ pub(crate) enum Conversion {
     Split(Text, Fracs),
     /// Two quantities that do not conform.
     NonConforming(Quantity, Quantity),
+}
+
+// Written by hand, so that code that drops a conversion need not prove anything about its contents.
+impl Drop for Conversion {
+    fn drop(self) {
+        match self {
+            Conversion::Linear(_)
+            | Conversion::Reciprocal(_)
+            | Conversion::Inverse(_)
+            | Conversion::Split(_, _)
+            | Conversion::NonConforming(_, _) => (),
+        }
+    }
 }
 
 impl Question<'_> {

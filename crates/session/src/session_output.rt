@@ -19,10 +19,16 @@ use units_io::{Failed, Sink, put_all};
 const LONG: usize = 65_536;
 
 /// The output for each sink that is not written yet.
-#[derive(Drop)]
 pub struct Said {
     pub out: Vec<u8>,
     pub err: Vec<u8>,
+}
+
+// Written by hand, so that code that drops what a session said need not prove anything about its contents.
+impl Drop for Said {
+    fn drop(self) {
+        let Said { out: _, err: _ } = self;
+    }
 }
 
 impl Said {

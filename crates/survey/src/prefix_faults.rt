@@ -1,6 +1,7 @@
 //! Name faults of the bodies of prefixes.
 
-ghost use Rattle.std.specs.Prelude.{◌≡◌, ◌++◌, ◌<◌, IfOk, OnOk, drop, length, position, take};
+ghost use Rattle.std.specs.Prelude.{◌≡◌, ◌++◌, ◌<◌, IfOk, OnOk, Some, drop, length, position, take};
+ghost use Rattle.std.specs.Option.{option_or};
 ghost use Rattle.def_entry.specs.SameKeys as same_keys;
 ghost use Rattle.survey.specs.PrefixFaults as spec;
 
@@ -14,32 +15,40 @@ use table_names::NameFault;
 pub(crate) fn prefix_fault(
     alloc: Global,
     prefix: &Key,
-    fault: NameFault,
+    mut fault: NameFault,
 ) -> Result<NameFault, AllocError>
     ensures { IfOk result (λ checked_fault. checked_fault ≡ spec.checked_prefix_fault prefix.now fault) }
 {
-    match fault {
-        NameFault::Unknown(word, None) => Ok(NameFault::Unknown(
-            word,
-            Some(copy_key(alloc, prefix.kind, prefix.name.as_bytes())?),
-        )),
-        NameFault::Refused(word, None) => Ok(NameFault::Refused(
-            word,
-            Some(copy_key(alloc, prefix.kind, prefix.name.as_bytes())?),
-        )),
-        NameFault::Cycle(chain) => Ok(NameFault::Cycle(turn_chain(alloc, prefix, chain)?)),
-        fault => Ok(fault),
+    match &mut fault {
+        NameFault::Unknown(_, holder) => set_missing_holder(alloc, prefix, holder)?,
+        NameFault::Refused(_, holder) => set_missing_holder(alloc, prefix, holder)?,
+        NameFault::Cycle(chain) => turn_chain(alloc, prefix, chain)?,
     }
+    Ok(fault)
+}
+
+// Sets the key whose entry includes a word to the prefix, if the word has no such key.
+fn set_missing_holder(
+    alloc: Global,
+    prefix: &Key,
+    holder: &mut Option<Key>,
+) -> Result<(), AllocError>
+    ensures { OnOk result (holder.new ≡ option_or holder.old (Some prefix.now)) }
+{
+    if holder.is_none() {
+        *holder = Some(copy_key(alloc, prefix.kind, prefix.name.as_bytes())?);
+    }
+    Ok(())
 }
 
 // Turns a chain so that it begins and ends with a key, if it contains that key.
-fn turn_chain(alloc: Global, key: &Key, chain: Keys) -> Result<Keys, AllocError>
-    ensures { IfOk result (λ keys. keys ≡ spec.checked_chain_from_key key.now chain) }
+fn turn_chain(alloc: Global, key: &Key, chain: &mut Keys) -> Result<(), AllocError>
+    ensures { OnOk result (chain.new ≡ spec.checked_chain_from_key key.now chain.old) }
 {
-    match place_of(key, chain.as_slice()) {
-        Some(place) => turned_to(alloc, place, chain.as_slice()),
-        None => Ok(chain),
+    if let Some(place) = place_of(key, chain.as_slice()) {
+        *chain = turned_to(alloc, place, chain.as_slice())?;
     }
+    Ok(())
 }
 
 // Returns the chain from `place` on, continued around to `place` again.

@@ -11,7 +11,6 @@ use std::alloc::{AllocError, Global};
 use units_io::Text;
 
 /// Why an expression has no value. A `Text` is the name of the function.
-#[derive(Drop)]
 pub enum ValueFault {
     /// A step on numbers has no result.
     Number(FracFault),
@@ -37,6 +36,24 @@ pub enum ValueFault {
     NeedsArgument(Text),
     /// The rank of the function is above 16.
     CallsTooDeep(Text),
+}
+
+// Written by hand, so that code that drops a fault need not prove anything about each kind of fault.
+impl Drop for ValueFault {
+    fn drop(self) {
+        match self {
+            ValueFault::Number(_) | ValueFault::ExponentNotNumber | ValueFault::ExponentRange => (),
+            ValueFault::NotConformable(_, _) => (),
+            ValueFault::NotInDomain(_)
+            | ValueFault::NotInRange(_)
+            | ValueFault::WrongArgument(_)
+            | ValueFault::WrongResult(_)
+            | ValueFault::NoInverse(_)
+            | ValueFault::OutsideTable(_)
+            | ValueFault::NeedsArgument(_)
+            | ValueFault::CallsTooDeep(_) => (),
+        }
+    }
 }
 
 /// Why an evaluation has no result.

@@ -9,9 +9,16 @@ use std::marker::Model;
 use std::vec::IntoIter;
 
 /// An ordered list of items.
-#[derive(Debug, Drop)]
+#[derive(Debug)]
 pub struct List<T> {
     items: Vec<T>,
+}
+
+// Written by hand, so that code that drops a list need not prove anything about its contents.
+impl<T: Drop> Drop for List<T> {
+    fn drop(self) {
+        let List { items: _ } = self;
+    }
 }
 
 /// An ordered list of texts.
@@ -60,7 +67,8 @@ impl<T> List<T> {
     pub fn into_vec(self) -> Vec<T>
         ensures { result.items ≡ self }
     {
-        self.items
+        let List { items } = self;
+        items
     }
 }
 
@@ -101,6 +109,7 @@ impl<T: Drop> IntoIterator for List<T> {
         × (into_iter_len iter ≡ length list) };
 
     fn into_iter(self) -> IntoIter<T> {
-        self.items.into_iter()
+        let List { items } = self;
+        items.into_iter()
     }
 }

@@ -5,10 +5,16 @@ use std::marker::Model;
 use std::sync::ledger::{Blank, Book, Ledger, Share};
 
 /// The number of steps taken. Only `tick` changes it.
-#[derive(Drop)]
 pub struct Steps<L: Ledger> {
     book: Book<L>,
     share: Share<L>,
+}
+
+// Written by hand, so that code that drops a count of steps need not prove anything about its contents.
+impl<L: Ledger> Drop for Steps<L> {
+    fn drop(self) {
+        let Steps { book: _, share: _ } = self;
+    }
 }
 
 impl<L: Ledger> Model for Steps<L> {

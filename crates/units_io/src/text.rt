@@ -5,9 +5,16 @@ use std::alloc::{AllocError, Global};
 use std::marker::Model;
 
 /// Owned bytes that need not be UTF-8.
-#[derive(Debug, Drop)]
+#[derive(Debug)]
 pub struct Text {
     bytes: Vec<u8>,
+}
+
+// Written by hand, so that code that drops a text need not prove anything about its contents.
+impl Drop for Text {
+    fn drop(self) {
+        let Text { bytes: _ } = self;
+    }
 }
 
 impl Model for Text {
@@ -36,7 +43,8 @@ impl Text {
     pub fn into_bytes(self) -> Vec<u8>
         ensures { result.items ≡ self }
     {
-        self.bytes
+        let Text { bytes } = self;
+        bytes
     }
 
     /// Returns a copy of the text.

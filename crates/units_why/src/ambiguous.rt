@@ -16,11 +16,21 @@ use units_io::Text;
 use word_readings::{Reading, word_readings};
 
 // A word of a definition with two or more readings.
-#[derive(Drop)]
 struct AmbiguousWord {
     place: usize,
     word: Text,
     readings: Vec<Reading>,
+}
+
+// Written by hand, so that code that drops an ambiguous word need not prove anything about its contents.
+impl Drop for AmbiguousWord {
+    fn drop(self) {
+        let AmbiguousWord {
+            place: _,
+            word: _,
+            readings: _,
+        } = self;
+    }
 }
 
 /// Appends a finding for each word of the definitions at the places `keys` that has another reading with different

@@ -15,11 +15,21 @@ pub(crate) const BUILT_IN_NAME: &[u8] = b"builtin";
 
 /// The definitions of a run, and the files of their lines. The files are unknown if one of them was read twice and had
 /// changed.
-#[derive(Drop)]
 pub(crate) struct Definitions<L: Ledger> {
     pub(crate) evaluator: Evaluator<L>,
     pub(crate) names: Option<LineNames>,
     pub(crate) are_built_in: bool,
+}
+
+// Written by hand, so that code that drops definitions need not prove anything about their contents.
+impl<L: Ledger> Drop for Definitions<L> {
+    fn drop(self) {
+        let Definitions {
+            evaluator: _,
+            names: _,
+            are_built_in: _,
+        } = self;
+    }
 }
 
 /// Loads the definitions that a request names, or the built-in ones.

@@ -39,7 +39,6 @@ pub(crate) struct Spot<'a> {
 }
 
 /// A finding about a line.
-#[derive(Drop)]
 pub(crate) struct Finding {
     pub(crate) severity: Severity,
     pub(crate) message: Text,
@@ -47,11 +46,31 @@ pub(crate) struct Finding {
     pub(crate) mark: Mark,
 }
 
+// Written by hand, so that code that drops a finding need not prove anything about its contents.
+impl Drop for Finding {
+    fn drop(self) {
+        let Finding {
+            severity: _,
+            message: _,
+            mark: _,
+        } = self;
+    }
+}
+
 /// A finding with its line in the deck.
-#[derive(Drop)]
 pub(crate) struct LineFinding {
     pub(crate) place: usize,
     pub(crate) finding: Finding,
+}
+
+// Written by hand, so that code that drops a line finding need not prove anything about its contents.
+impl Drop for LineFinding {
+    fn drop(self) {
+        let LineFinding {
+            place: _,
+            finding: _,
+        } = self;
+    }
 }
 
 /// A finding with its place, and the text of the key that its line defines, which is empty if there is none.

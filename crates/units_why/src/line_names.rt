@@ -12,12 +12,20 @@ use std::alloc::{AllocError, Global};
 use units_io::{FetchFault, Files, Text};
 
 /// The file of each line of a deck.
-#[derive(Drop)]
 pub(crate) enum LineNames {
     /// All lines are in the file of this name.
     One(Text),
     /// Lines are in these files.
     Many(LineFiles),
+}
+
+// Written by hand, so that code that drops line names need not prove anything about their contents.
+impl Drop for LineNames {
+    fn drop(self) {
+        match self {
+            LineNames::One(_) | LineNames::Many(_) => (),
+        }
+    }
 }
 
 impl LineNames {

@@ -17,7 +17,6 @@ use units_io::Text;
 use value_sources::{FailedStep, StoredMention, Walk, value_tree};
 
 /// The outcome of a row.
-#[derive(Drop)]
 pub(crate) enum Outcome {
     /// The reduced value of its definition.
     Value(Quantity),
@@ -29,11 +28,26 @@ pub(crate) enum Outcome {
     Function,
 }
 
+// Written by hand, so that code that drops an outcome need not prove anything about its contents.
+impl Drop for Outcome {
+    fn drop(self) {
+        match self {
+            Outcome::Value(_) | Outcome::Fault(_) | Outcome::FaultBelow | Outcome::Function => (),
+        }
+    }
+}
+
 /// The fault of a definition: its text, and the step without a value if it is known.
-#[derive(Drop)]
 pub(crate) struct OwnFault {
     pub(crate) text: Text,
     pub(crate) step: Option<FaultStep>,
+}
+
+// Written by hand, so that code that drops such a fault need not prove anything about its contents.
+impl Drop for OwnFault {
+    fn drop(self) {
+        let OwnFault { text: _, step: _ } = self;
+    }
 }
 
 /// A borrowed outcome.

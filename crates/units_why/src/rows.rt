@@ -19,11 +19,21 @@ use std::sync::ledger::Ledger;
 use value_sources::{Row, Walk};
 
 /// The rows of a tree that are not yet written.
-#[derive(Drop)]
 pub(crate) struct Rows {
     walk: Walk,
     notes: RowNotes,
     key: KeyCopy,
+}
+
+// Written by hand, so that code that drops rows need not prove anything about their contents.
+impl Drop for Rows {
+    fn drop(self) {
+        let Rows {
+            walk: _,
+            notes: _,
+            key: _,
+        } = self;
+    }
 }
 
 impl Rows {

@@ -11,17 +11,29 @@ use std::alloc::{AllocError, Global};
 use units_io::{Text, is_blank};
 
 /// The units that the comments of a file name, by the line numbers of the definitions.
-#[derive(Drop)]
 pub(crate) struct UnitNotes {
     notes: Vec<UnitNote>,
     // The index of the first note that was not skipped.
     next: usize,
 }
 
-#[derive(Drop)]
+// Written by hand, so that code that drops unit notes need not prove anything about their contents.
+impl Drop for UnitNotes {
+    fn drop(self) {
+        let UnitNotes { notes: _, next: _ } = self;
+    }
+}
+
 struct UnitNote {
     line: usize,
     unit: Text,
+}
+
+// Written by hand, so that code that drops a unit note need not prove anything about its contents.
+impl Drop for UnitNote {
+    fn drop(self) {
+        let UnitNote { line: _, unit: _ } = self;
+    }
 }
 
 // The state of reading the lines of a file. A unit that is not set is empty.

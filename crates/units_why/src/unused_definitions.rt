@@ -13,9 +13,15 @@ use units_io::Text;
 use word_readings::{Reading, word_readings};
 
 // For each line of a deck, whether another definition uses the definition on it.
-#[derive(Drop)]
 struct Uses {
     is_used: Vec<bool>,
+}
+
+// Written by hand, so that code that drops uses need not prove anything about their contents.
+impl Drop for Uses {
+    fn drop(self) {
+        let Uses { is_used: _ } = self;
+    }
 }
 
 /// Appends a finding for each definition at the places `keys` that no other definition uses, except units of measure

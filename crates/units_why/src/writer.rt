@@ -12,12 +12,22 @@ use std::alloc::{AllocError, Global};
 use units_io::{Sink, Text, put_all};
 
 /// A text that is written in pieces. A piece that memory is too short for is left out, and the end reports it.
-#[derive(Drop)]
 pub(crate) struct Writer {
     alloc: Global,
     text: Vec<u8>,
     // Whether a piece was left out.
     is_incomplete: bool,
+}
+
+// Written by hand, so that code that drops a writer need not prove anything about its contents.
+impl Drop for Writer {
+    fn drop(self) {
+        let Writer {
+            alloc: _,
+            text: _,
+            is_incomplete: _,
+        } = self;
+    }
 }
 
 impl Writer {
@@ -107,6 +117,11 @@ impl Writer {
         if self.is_incomplete {
             return Err(AllocError);
         }
-        Ok(Text::from(self.text))
+        let Writer {
+            alloc: _,
+            text,
+            is_incomplete: _,
+        } = self;
+        Ok(Text::from(text))
     }
 }

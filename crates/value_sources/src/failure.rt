@@ -6,7 +6,6 @@ use tree_eval::Step;
 use units_io::Text;
 
 /// A step of an expression that has no value although each of its operands has one.
-#[derive(Drop)]
 pub enum FailedStep {
     /// A product, a quotient, a sum or a difference, with the value of the members before and that of the next one.
     Joined(Step, Quantity, Quantity),
@@ -18,4 +17,17 @@ pub enum FailedStep {
     Called(Text, Quantity),
     /// A call of the inverse of the function of this name, with its argument.
     Inverted(Text, Quantity),
+}
+
+// Written by hand, so that code that drops a failed step need not prove anything about its contents.
+impl Drop for FailedStep {
+    fn drop(self) {
+        match self {
+            FailedStep::Joined(_, _, _)
+            | FailedStep::Raised(_, _)
+            | FailedStep::Rooted(_, _)
+            | FailedStep::Called(_, _)
+            | FailedStep::Inverted(_, _) => (),
+        }
+    }
 }

@@ -22,13 +22,25 @@ pub(crate) struct Location {
 /// A word of an expression or of an entry of a deck, with one of the keys that it leads to, if it leads to any. The key
 /// is stored as the place of its line in force, and the word only if it is not the name of the key. So most mentions
 /// own no memory, and the word and the key are read from the deck.
-#[derive(Drop)]
 pub struct StoredMention {
     pub(crate) location: Location,
     pub(crate) word: Option<Text>,
     pub(crate) word_kind: WordKind,
     pub(crate) resolution: Resolution,
     pub(crate) place: Option<usize>,
+}
+
+// Written by hand, so that code that drops a mention need not prove anything about its contents.
+impl Drop for StoredMention {
+    fn drop(self) {
+        let StoredMention {
+            location: _,
+            word: _,
+            word_kind: _,
+            resolution: _,
+            place: _,
+        } = self;
+    }
 }
 
 impl StoredMention {

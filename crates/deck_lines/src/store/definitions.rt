@@ -28,17 +28,32 @@ use units_io::HashSeed;
 
 /// The definition of a line: the number of its key, and the rest of the entry except its text, which is part of the
 /// line.
-#[derive(Drop)]
 pub struct Definition {
     pub key: KeyNumber,
     pub what: What,
 }
 
+// Written by hand, so that code that drops a definition need not prove anything about its contents.
+impl Drop for Definition {
+    fn drop(self) {
+        let Definition { key: _, what: _ } = self;
+    }
+}
+
 /// The definition of each line, and the keys that have numbers.
-#[derive(Drop)]
 pub(crate) struct Definitions {
     pub of_lines: GapList<Option<Definition>>,
     pub keys: KeyNumbers,
+}
+
+// Written by hand, so that code that drops definitions need not prove anything about their contents.
+impl Drop for Definitions {
+    fn drop(self) {
+        let Definitions {
+            of_lines: _,
+            keys: _,
+        } = self;
+    }
 }
 
 /// The definitions of lines that are to be inserted.

@@ -98,7 +98,7 @@ impl KeyNumbers {
         ensures number { key_numbered (key_number_names_in self.new) result ≡ Some key }
     {
         let kind = key.kind;
-        let name = key.name.into_bytes();
+        let name = key.into_name().into_bytes();
         let number = match kind {
             Kind::Unit => self.units.put(name),
             Kind::Prefix => self.prefixes.put(name),
