@@ -19,7 +19,7 @@ use Rattle.session.specs.SessionProgress.{BeginsTalkOutput, IsAtPointOfTalk, IsF
 use Rattle.session.specs.SessionProgress.{SessionBase, TalkBreaksOff}
 use Rattle.session.specs.BetweenPieces.{OpensSession, SessionWaitsForInput, SessionTookAtLeast}
 use Rattle.session.specs.Sessions.{SessionState}
-use Rattle.session.specs.declared.session_output.Said.{Said}
+use Rattle.session.specs.declared.session_output.OutputBuffers.{OutputBuffers}
 use Rattle.std.proofs.lemmas.Bool.{leb-false, leb-true}
 use Rattle.session.proofs.LineCuts.{input-taken-is-before-left}
 use Rattle.session.proofs.HeardLines.{heard_more}
@@ -124,15 +124,17 @@ session_feed_keeps_left_and_more taken bytes done left more e =
     sym (append_assoc (taken ++ done) left more) ∙ session_feed_keeps_input taken bytes done left more e
 
 -- after the opening is written, the session waits for its first line
-pub session_waits_after_opening : (first : SessionTrace) (held : Option (List ℕ)) (said : Said) (session : SessionState)
+pub session_waits_after_opening : (first : SessionTrace) (held : Option (List ℕ)) (buffers : OutputBuffers)
+    (session : SessionState)
     (before opening now : SessionOutside)
-    → OpensSession first said session before opening
-    → now.out ≡ sink_bytes_append opening.out said.out.items → now.err ≡ sink_bytes_append opening.err said.err.items
+    → OpensSession first buffers session before opening
+    → now.out ≡ sink_bytes_append opening.out buffers.out.items
+    → now.err ≡ sink_bytes_append opening.err buffers.err.items
     → now.files ≡ opening.files → now.steps ≡ opening.steps → held ≡ readable_session_line []
     → SessionWaitsForInput first [] held session before now
-session_waits_after_opening first held said session before opening now w o e f n h = record {
-  out = o ∙ ap (λ p. sink_bytes_append p said.out.items) w.out ∙ ap (sink_bytes_append before.out) (sym w.is_at.out);
-  err = e ∙ ap (λ p. sink_bytes_append p said.err.items) w.err ∙ ap (sink_bytes_append before.err) (sym w.is_at.err);
+session_waits_after_opening first held buffers session before opening now w o e f n h = record {
+  out = o ∙ ap (λ p. sink_bytes_append p buffers.out.items) w.out ∙ ap (sink_bytes_append before.out) (sym w.is_at.out);
+  err = e ∙ ap (λ p. sink_bytes_append p buffers.err.items) w.err ∙ ap (sink_bytes_append before.err) (sym w.is_at.err);
   files = f ∙ w.is_at.files;
   steps = omega (arith, n, w.is_at.steps);
   session = w.is_at.session;
@@ -151,10 +153,10 @@ module _ (first : SessionTrace) (taken : List ℕ) (held : Option (List ℕ)) (s
   written = record { out = heard_trace.out; err = heard_trace.err; files = before.files; steps = before.steps }
 
   -- as long as there is no new output, the session is at the same point
-  pub stands : (said : Said) → said.out.items ≡ [] → said.err.items ≡ []
+  pub stands : (buffers : OutputBuffers) → buffers.out.items ≡ [] → buffers.err.items ≡ []
       → IsTalkAtWholeLines written first taken held
-      (record { said_output = said; session = session; files = now.files; steps = now.steps })
-  stands said o e = record {
+      (record { output_buffers = buffers; session = session; files = now.files; steps = now.steps })
+  stands buffers o e = record {
     is_at = record {
       out = sym (append-nil heard_trace.out) ∙ ap (λ t. heard_trace.out ++ t) (sym o);
       err = sym (append-nil heard_trace.err) ∙ ap (λ t. heard_trace.err ++ t) (sym e);
@@ -167,43 +169,46 @@ module _ (first : SessionTrace) (taken : List ℕ) (held : Option (List ℕ)) (s
   }
 
   -- a front of the written and the new output together is a front of the whole
-  pub fronts : (talk : SessionTrace) (said : Said) (after : SessionOutside) → IsFrontOfTalk written talk said
-      → SinkGrowsByPrefix now.out after.out said.out.items → SinkGrowsByPrefix now.err after.err said.err.items
+  pub fronts : (talk : SessionTrace) (buffers : OutputBuffers) (after : SessionOutside)
+      → IsFrontOfTalk written talk buffers
+      → SinkGrowsByPrefix now.out after.out buffers.out.items → SinkGrowsByPrefix now.err after.err buffers.err.items
       → IsSessionOutputFront (talk_output talk) before after
-  fronts talk said after b o e = record {
-    out = session_output_front_of_more before.out after.out (heard_trace.out ++ said.out.items) talk.out b.out
-        (session_output_front_of_both before.out now.out after.out heard_trace.out said.out.items w.out o);
-    err = session_output_front_of_more before.err after.err (heard_trace.err ++ said.err.items) talk.err b.err
-        (session_output_front_of_both before.err now.err after.err heard_trace.err said.err.items w.err e);
+  fronts talk buffers after b o e = record {
+    out = session_output_front_of_more before.out after.out (heard_trace.out ++ buffers.out.items) talk.out b.out
+        (session_output_front_of_both before.out now.out after.out heard_trace.out buffers.out.items w.out o);
+    err = session_output_front_of_more before.err after.err (heard_trace.err ++ buffers.err.items) talk.err b.err
+        (session_output_front_of_both before.err now.err after.err heard_trace.err buffers.err.items w.err e);
   }
 
   -- the output is a part of the whole, according to how far the talk is answered
-  pub part_by : (failed : Type 0) (input : List ℕ) (said : Said) (new : SessionState) (after : SessionOutside)
+  pub part_by : (failed : Type 0) (input : List ℕ) (buffers : OutputBuffers) (new : SessionState)
+      (after : SessionOutside)
       → TalkBreaksOff failed written first (heard_lines (input_lines input))
-      (record { said_output = said; session = new; files = after.files; steps = after.steps })
-      → SinkGrowsByPrefix now.out after.out said.out.items → SinkGrowsByPrefix now.err after.err said.err.items
+      (record { output_buffers = buffers; session = new; files = after.files; steps = after.steps })
+      → SinkGrowsByPrefix now.out after.out buffers.out.items → SinkGrowsByPrefix now.err after.err buffers.err.items
       → IsSessionPartIf failed (session_course first input) before after
-  part_by failed input said new after broken o e = record {
+  part_by failed input buffers new after broken o e = record {
     answered_lines = broken.answered_lines;
     lines_left = broken.lines_left;
     lines_split = broken.lines_split;
-    output_front = fronts (talk_over_lines first broken.answered_lines) said after broken.output_before o e;
+    output_front = fronts (talk_over_lines first broken.answered_lines) buffers after broken.output_before o e;
     files = broken.files_left;
   }
 
   -- the session waits again after its output is written
-  pub waits_after_output : (front : List ℕ) (held_now : Option (List ℕ)) (said : Said) (new : SessionState)
+  pub waits_after_output : (front : List ℕ) (held_now : Option (List ℕ)) (buffers : OutputBuffers) (new : SessionState)
       (after : SessionOutside)
       → IsTalkAtWholeLines written first front held_now
-      (record { said_output = said; session = new; files = after.files; steps = after.steps })
-      → after.out ≡ sink_bytes_append now.out said.out.items → after.err ≡ sink_bytes_append now.err said.err.items
+      (record { output_buffers = buffers; session = new; files = after.files; steps = after.steps })
+      → after.out ≡ sink_bytes_append now.out buffers.out.items
+      → after.err ≡ sink_bytes_append now.err buffers.err.items
       → SessionWaitsForInput first front held_now new before after
-  waits_after_output front held_now said new after s o e = record {
-    out = o ∙ ap (λ p. sink_bytes_append p said.out.items) w.out
-        ∙ session_sink_grows_twice before.out heard_trace.out said.out.items
+  waits_after_output front held_now buffers new after s o e = record {
+    out = o ∙ ap (λ p. sink_bytes_append p buffers.out.items) w.out
+        ∙ session_sink_grows_twice before.out heard_trace.out buffers.out.items
         ∙ ap (sink_bytes_append before.out) (sym s.is_at.out);
-    err = e ∙ ap (λ p. sink_bytes_append p said.err.items) w.err
-        ∙ session_sink_grows_twice before.err heard_trace.err said.err.items
+    err = e ∙ ap (λ p. sink_bytes_append p buffers.err.items) w.err
+        ∙ session_sink_grows_twice before.err heard_trace.err buffers.err.items
         ∙ ap (sink_bytes_append before.err) (sym s.is_at.err);
     files = s.is_at.files;
     steps = s.is_at.steps;
@@ -213,17 +218,18 @@ module _ (first : SessionTrace) (taken : List ℕ) (held : Option (List ℕ)) (s
   }
 
   -- the run is complete after the talk over its input is written
-  pub all_after_talk : (talk : SessionTrace) (said : Said) (new : SessionState) (after : SessionOutside)
+  pub all_after_talk : (talk : SessionTrace) (buffers : OutputBuffers) (new : SessionState) (after : SessionOutside)
       → IsAtPointOfTalk written talk
-      (record { said_output = said; session = new; files = after.files; steps = after.steps })
-      → after.out ≡ sink_bytes_append now.out said.out.items → after.err ≡ sink_bytes_append now.err said.err.items
+      (record { output_buffers = buffers; session = new; files = after.files; steps = after.steps })
+      → after.out ≡ sink_bytes_append now.out buffers.out.items
+      → after.err ≡ sink_bytes_append now.err buffers.err.items
       → IsAllSessionOutput (talk_output talk) before after
-  all_after_talk talk said new after at o e = record {
-    out = o ∙ ap (λ p. sink_bytes_append p said.out.items) w.out
-        ∙ session_sink_grows_twice before.out heard_trace.out said.out.items
+  all_after_talk talk buffers new after at o e = record {
+    out = o ∙ ap (λ p. sink_bytes_append p buffers.out.items) w.out
+        ∙ session_sink_grows_twice before.out heard_trace.out buffers.out.items
         ∙ ap (sink_bytes_append before.out) (sym at.out);
-    err = e ∙ ap (λ p. sink_bytes_append p said.err.items) w.err
-        ∙ session_sink_grows_twice before.err heard_trace.err said.err.items
+    err = e ∙ ap (λ p. sink_bytes_append p buffers.err.items) w.err
+        ∙ session_sink_grows_twice before.err heard_trace.err buffers.err.items
         ∙ ap (sink_bytes_append before.err) (sym at.err);
     files = at.files;
     steps = at.steps;
@@ -265,37 +271,39 @@ module _ (first : SessionTrace) (taken : List ℕ) (held : Option (List ℕ)) (s
       }
 
 -- a front of the opening
-session_opening_is_output_front : (first : SessionTrace) (said : Said) (session : SessionState)
+session_opening_is_output_front : (first : SessionTrace) (buffers : OutputBuffers) (session : SessionState)
     (before opening after : SessionOutside)
-    → OpensSession first said session before opening
-    → SinkGrowsByPrefix opening.out after.out said.out.items → SinkGrowsByPrefix opening.err after.err said.err.items
+    → OpensSession first buffers session before opening
+    → SinkGrowsByPrefix opening.out after.out buffers.out.items
+    → SinkGrowsByPrefix opening.err after.err buffers.err.items
     → IsSessionOutputFront (talk_output first) before after
-session_opening_is_output_front first said session before opening after w o e = record {
+session_opening_is_output_front first buffers session before opening after w o e = record {
   out = subst (SinkGrowsByPrefix before.out after.out) (sym w.is_at.out)
-      (subst (λ p. SinkGrowsByPrefix p after.out said.out.items) w.out o);
+      (subst (λ p. SinkGrowsByPrefix p after.out buffers.out.items) w.out o);
   err = subst (SinkGrowsByPrefix before.err after.err) (sym w.is_at.err)
-      (subst (λ p. SinkGrowsByPrefix p after.err said.err.items) w.err e);
+      (subst (λ p. SinkGrowsByPrefix p after.err buffers.err.items) w.err e);
 }
 
 -- before any line is answered, the files are as they were
-pub session_opening_keeps_files : (first : SessionTrace) (said : Said) (session : SessionState)
+pub session_opening_keeps_files : (first : SessionTrace) (buffers : OutputBuffers) (session : SessionState)
     (before opening : SessionOutside)
-    → OpensSession first said session before opening → opening.files ≡ next_session_value_if_known before.files
+    → OpensSession first buffers session before opening → opening.files ≡ next_session_value_if_known before.files
     first.state.files
-session_opening_keeps_files first said session before opening w = w.is_at.files
+session_opening_keeps_files first buffers session before opening w = w.is_at.files
 
 -- if the opening is written in part, the output is a part of the whole
-pub session_opening_is_output_part : (first : SessionTrace) (input : List ℕ) (said : Said) (session : SessionState)
+pub session_opening_is_output_part : (first : SessionTrace) (input : List ℕ) (buffers : OutputBuffers)
+    (session : SessionState)
     (before opening after : SessionOutside)
-    → OpensSession first said session before opening → SinkGrowsByPrefix opening.out after.out said.out.items
-    → SinkGrowsByPrefix opening.err after.err said.err.items → after.files ≡ opening.files
+    → OpensSession first buffers session before opening → SinkGrowsByPrefix opening.out after.out buffers.out.items
+    → SinkGrowsByPrefix opening.err after.err buffers.err.items → after.files ≡ opening.files
     → IsSessionPrefixRunExceptFile (session_course first input) before after
-session_opening_is_output_part first input said session before opening after w o e f = record {
+session_opening_is_output_part first input buffers session before opening after w o e f = record {
   answered_lines = [];
   lines_left = heard_lines (input_lines input);
   lines_split = refl;
-  output_front = session_opening_is_output_front first said session before opening after w o e;
-  files = (first.state.files, f ∙ session_opening_keeps_files first said session before opening w, inl refl);
+  output_front = session_opening_is_output_front first buffers session before opening after w o e;
+  files = (first.state.files, f ∙ session_opening_keeps_files first buffers session before opening w, inl refl);
 }
 
 -- the bytes of another block are counted
@@ -318,14 +326,15 @@ module _ (first : SessionTrace) (taken : List ℕ) (held : Option (List ℕ)) (s
     (before now : SessionOutside)
     (w : SessionWaitsForInput first taken held session before now) where
   -- the run over an equal input is complete, too
-  pub whole_at : (i input : List ℕ) (said : Said) (new : SessionState) (after : SessionOutside) → i ≡ input
+  pub whole_at : (i input : List ℕ) (buffers : OutputBuffers) (new : SessionState) (after : SessionOutside) → i ≡ input
       → IsAtPointOfTalk (written first taken held session before now w) (talk_over_input first i)
-      (record { said_output = said; session = new; files = after.files; steps = after.steps })
-      → after.out ≡ sink_bytes_append now.out said.out.items → after.err ≡ sink_bytes_append now.err said.err.items
+      (record { output_buffers = buffers; session = new; files = after.files; steps = after.steps })
+      → after.out ≡ sink_bytes_append now.out buffers.out.items
+      → after.err ≡ sink_bytes_append now.err buffers.err.items
       → IsAllSessionOutput (talk_output (talk_over_input first input)) before after
-  whole_at i input said new after p at o e =
+  whole_at i input buffers new after p at o e =
       subst (λ t. IsAllSessionOutput (talk_output (talk_over_input first t)) before after) p
-      (all_after_talk first taken held session before now w (talk_over_input first i) said new after at o e)
+      (all_after_talk first taken held session before now w (talk_over_input first i) buffers new after at o e)
 
 -- the input was read to a line that ends the session
 pub heard_input_is_read_to_end : (input taken bytes more : List ℕ) (left : Option (List ℕ))

@@ -121,7 +121,7 @@ talk_breaks_off_at_later_line fault base first before line after all now e b =
           e ∙ ap (λ ls. before ++ (ls ++ after)) b.lines_split
           ∙ ap (λ ls. before ++ ls) (append_assoc b.answered_lines b.lines_left after)
           ∙ sym (append_assoc before b.answered_lines (b.lines_left ++ after));
-      output_before = subst (λ (t : SessionTrace). IsFrontOfTalk base t now.said_output) same b.output_before;
+      output_before = subst (λ (t : SessionTrace). IsFrontOfTalk base t now.output_buffers) same b.output_before;
       files_left = (
         b.files_left.0,
         b.files_left.1,

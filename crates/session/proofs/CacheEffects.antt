@@ -152,20 +152,21 @@ talk-line-ignores-cache : (a b : SessionTrace) (line : List ℕ)
     → AreSameTalksButCache (talk_with_answer a (session_line_answer a.state line) line)
     (talk_with_answer b (session_line_answer b.state line) line)
 talk-line-ignores-cache a b line h d =
-    let said : IsSameAnswerButCache (session_line_answer a.state line) (session_line_answer b.state line) =
+    let buffers : IsSameAnswerButCache (session_line_answer a.state line) (session_line_answer b.state line) =
     subst (λ s. IsSameAnswerButCache (session_line_answer a.state line) (session_line_answer s line)) (sym d.state)
     (session-line-ignores-cache a.state d.cached_outcomes d.reductions line h) in
     record {
       out = ap₂ (λ x y. x ++ y) d.out
-          (ap₂ (λ x (s : SessionAndFiles). x ++ (if is_last_session_line line then [] else prompt s.session)) said.out
-          said.same_state
+          (ap₂ (λ x (s : SessionAndFiles). x ++ (if is_last_session_line line then [] else prompt s.session))
+          buffers.out
+          buffers.same_state
           ∙ ap (λ p. (session_line_answer a.state line).out ++ (if is_last_session_line line then [] else p))
-          (session-prompt-ignores-cache (session_line_answer a.state line).state_after said.cached_outcomes
-          said.reductions));
-      err = ap₂ (λ x y. x ++ y) d.err said.err;
-      cached_outcomes = said.cached_outcomes;
-      reductions = said.reductions;
-      state = said.same_state;
+          (session-prompt-ignores-cache (session_line_answer a.state line).state_after buffers.cached_outcomes
+          buffers.reductions));
+      err = ap₂ (λ x y. x ++ y) d.err buffers.err;
+      cached_outcomes = buffers.cached_outcomes;
+      reductions = buffers.reductions;
+      state = buffers.same_state;
     }
 
 pub cache-talk-law : CacheTalkLaw

@@ -30,7 +30,7 @@ use Rattle.session.specs.declared.answer.LineReply.{LineReply}
 use Rattle.session.specs.declared.command.Command.{Command as Declared}
 use Rattle.session.specs.declared.command.Command.TheVariants as read
 use Rattle.session.specs.declared.fault.SessionFault.{SessionFault}
-use Rattle.session.specs.declared.session_output.Said.{Said}
+use Rattle.session.specs.declared.session_output.OutputBuffers.{OutputBuffers}
 use Rattle.session.proofs.BrokenAnswers.{session_files_after_failed_line}
 use Rattle.session.proofs.TalkParts.{talk_output_is_front_of_later}
 use Rattle.watch.specs.WatchViews.{watch_subject}
@@ -187,10 +187,10 @@ session_save_is_answered (Ok reply) session m name needed files after steps h li
         ∙ sym (ap (λ f. next_session_value_if_known f (files_after_session_save (saved_file session.table.deck) name m))
         e)
 
-module _ (base : SessionBase) (talk : SessionTrace) (part : List ℕ) (said : Said) (session : SessionState)
+module _ (base : SessionBase) (talk : SessionTrace) (part : List ℕ) (buffers : OutputBuffers) (session : SessionState)
     (files : Option FileMap)
     (steps : ℕ) (at : IsAtPointOfTalk base talk
-    (record { said_output = said; session = session; files = files; steps = steps }))
+    (record { output_buffers = buffers; session = session; files = files; steps = steps }))
   where
     abbrev asked : SessionAnswer
     asked = session_line_answer talk.state part
@@ -235,16 +235,16 @@ module _ (base : SessionBase) (talk : SessionTrace) (part : List ℕ) (said : Sa
           ∙ ap (λ d. asked.out ++ cond d [] (prompt session_now)) done_is_last
           ∙ ap (λ s. asked.out ++ cond (is_last_session_line part) [] (prompt s)) same.session
 
-      out_now : talk.out ++ talk_text_of_answer asked part ≡ base.out ++ (said.out.items ++ text)
+      out_now : talk.out ++ talk_text_of_answer asked part ≡ base.out ++ (buffers.out.items ++ text)
       out_now =
-          ap (λ t. t ++ talk_text_of_answer asked part) at.out ∙ append_assoc base.out said.out.items
+          ap (λ t. t ++ talk_text_of_answer asked part) at.out ∙ append_assoc base.out buffers.out.items
           (talk_text_of_answer asked part)
-          ∙ ap (λ t. base.out ++ (said.out.items ++ t)) (sym text_spoken)
+          ∙ ap (λ t. base.out ++ (buffers.out.items ++ t)) (sym text_spoken)
 
-      err_now : talk.err ++ asked.err ≡ base.err ++ (said.err.items ++ reply.err)
+      err_now : talk.err ++ asked.err ≡ base.err ++ (buffers.err.items ++ reply.err)
       err_now =
-          ap (λ t. t ++ asked.err) at.err ∙ append_assoc base.err said.err.items asked.err
-          ∙ ap (λ t. base.err ++ (said.err.items ++ t)) (sym same.err)
+          ap (λ t. t ++ asked.err) at.err ∙ append_assoc base.err buffers.err.items asked.err
+          ∙ ap (λ t. base.err ++ (buffers.err.items ++ t)) (sym same.err)
 
       files_after : files_now ≡ next_session_value_if_known base.files asked.state_after.files
       files_after =
@@ -252,11 +252,11 @@ module _ (base : SessionBase) (talk : SessionTrace) (part : List ℕ) (said : Sa
           ∙ session_files_known_twice base.files talk.state.files asked.state_after.files
 
       -- the talk goes on with the answer
-      pub replied_at : (said_now : Said) → said_now.out.items ≡ said.out.items ++ text
-          → said_now.err.items ≡ said.err.items ++ reply.err
+      pub replied_at : (buffers_now : OutputBuffers) → buffers_now.out.items ≡ buffers.out.items ++ text
+          → buffers_now.err.items ≡ buffers.err.items ++ reply.err
           → IsAtPointOfTalk base (talk_with_answer talk asked part)
-          (record { said_output = said_now; session = session_now; files = files_now; steps = steps_now })
-      replied_at said_now o e = record {
+          (record { output_buffers = buffers_now; session = session_now; files = files_now; steps = steps_now })
+      replied_at buffers_now o e = record {
         out = out_now ∙ ap (λ t. base.out ++ t) (sym o);
         err = err_now ∙ ap (λ t. base.err ++ t) (sym e);
         session = same.session;
@@ -265,26 +265,27 @@ module _ (base : SessionBase) (talk : SessionTrace) (part : List ℕ) (said : Sa
       }
 
       -- or only a front of the answer is output
-      replied_before : (said_now : Said) → BeginsTalkOutput said_now.out.items (said.out.items ++ text)
-          → BeginsTalkOutput said_now.err.items (said.err.items ++ reply.err)
+      replied_before : (buffers_now : OutputBuffers) → BeginsTalkOutput buffers_now.out.items
+          (buffers.out.items ++ text)
+          → BeginsTalkOutput buffers_now.err.items (buffers.err.items ++ reply.err)
           → IsFrontOfTalk base (talk_with_answer talk asked part)
-          said_now
-      replied_before said_now o e = record {
-        out = (o.0, out_now ∙ ap (λ t. base.out ++ t) o.1 ∙ sym (append_assoc base.out said_now.out.items o.0));
-        err = (e.0, err_now ∙ ap (λ t. base.err ++ t) e.1 ∙ sym (append_assoc base.err said_now.err.items e.0));
+          buffers_now
+      replied_before buffers_now o e = record {
+        out = (o.0, out_now ∙ ap (λ t. base.out ++ t) o.1 ∙ sym (append_assoc base.out buffers_now.out.items o.0));
+        err = (e.0, err_now ∙ ap (λ t. base.err ++ t) e.1 ∙ sym (append_assoc base.err buffers_now.err.items e.0));
       }
 
       -- a front of the answer breaks off the talk
-      pub replied_broken : (fault : SessionFault) (said_now : Said)
-          → BeginsTalkOutput said_now.out.items (said.out.items ++ text) → BeginsTalkOutput said_now.err.items
-          (said.err.items ++ reply.err)
+      pub replied_broken : (fault : SessionFault) (buffers_now : OutputBuffers)
+          → BeginsTalkOutput buffers_now.out.items (buffers.out.items ++ text) → BeginsTalkOutput buffers_now.err.items
+          (buffers.err.items ++ reply.err)
           → IsTalkBroken fault base talk (part ∷ [])
-          (record { said_output = said_now; session = session_now; files = files_now; steps = steps_now })
-      replied_broken fault said_now o e = record {
+          (record { output_buffers = buffers_now; session = session_now; files = files_now; steps = steps_now })
+      replied_broken fault buffers_now o e = record {
         answered_lines = part ∷ [];
         lines_left = [];
         lines_split = refl;
-        output_before = replied_before said_now o e;
+        output_before = replied_before buffers_now o e;
         files_left = (asked.state_after.files, files_after, inl refl);
       }
 
@@ -293,13 +294,13 @@ module _ (base : SessionBase) (talk : SessionTrace) (part : List ℕ) (said : Sa
         (session_now : SessionState) (files_now : Option FileMap) (steps_now : ℕ)
         → SessionLineKeepsFiles {A = A} (read_session_line_save_name line) (Err fault) files files_now
         → IsTalkBroken fault base talk (part ∷ [])
-        (record { said_output = said; session = session_now; files = files_now; steps = steps_now })
+        (record { output_buffers = buffers; session = session_now; files = files_now; steps = steps_now })
     unanswered A line heard fault session_now files_now steps_now kept = record {
       answered_lines = [];
       lines_left = part ∷ [];
       lines_split = refl;
       output_before = talk_output_is_front_of_later base talk talk []
-          (record { said_output = said; session = session; files = files; steps = steps }) at refl;
+          (record { output_buffers = buffers; session = session; files = files; steps = steps }) at refl;
       files_left = session_files_after_failed_line A base.files talk part fault files_now
           (subst (λ old. SessionLineKeepsFiles {A = A} (heard_line_save_name part) (Err fault) old files_now) at.files
           (subst (λ l. SessionLineKeepsFiles {A = A} (read_session_line_save_name l) (Err fault) files files_now) heard

@@ -139,19 +139,20 @@ talk-line-ignores-versions : (a b : SessionTrace) (line : List ℕ)
     → AreSameTalksButVersions (talk_with_answer a (session_line_answer a.state line) line)
     (talk_with_answer b (session_line_answer b.state line) line)
 talk-line-ignores-versions a b line h d =
-    let said : IsSameAnswerButVersions (session_line_answer a.state line) (session_line_answer b.state line) =
+    let buffers : IsSameAnswerButVersions (session_line_answer a.state line) (session_line_answer b.state line) =
     subst (λ s. IsSameAnswerButVersions (session_line_answer a.state line) (session_line_answer s line)) (sym d.state)
     (session-line-ignores-versions a.state d.versions line h) in
     record {
       out = ap₂ (λ x y. x ++ y) d.out
-          (ap₂ (λ x (s : SessionAndFiles). x ++ (if is_last_session_line line then [] else prompt s.session)) said.out
-          said.same_state
+          (ap₂ (λ x (s : SessionAndFiles). x ++ (if is_last_session_line line then [] else prompt s.session))
+          buffers.out
+          buffers.same_state
           ∙ ap (λ p. (session_line_answer a.state line).out ++ (if is_last_session_line line then [] else p))
-          (session-prompt-ignores-versions (session_line_answer a.state line).state_after said.versions));
-      err = ap₂ (λ x y. x ++ y) d.err said.err;
-      steps = ap₂ (λ (x y : ℕ). x + y) d.steps said.newly;
-      versions = said.versions;
-      state = said.same_state;
+          (session-prompt-ignores-versions (session_line_answer a.state line).state_after buffers.versions));
+      err = ap₂ (λ x y. x ++ y) d.err buffers.err;
+      steps = ap₂ (λ (x y : ℕ). x + y) d.steps buffers.newly;
+      versions = buffers.versions;
+      state = buffers.same_state;
     }
 
 pub versions-talk-law : VersionsTalkLaw

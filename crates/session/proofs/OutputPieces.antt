@@ -21,7 +21,7 @@ use Rattle.session.specs.WrittenOutput.{IsSessionPrefixRunExceptFile, session_co
 use Rattle.session.specs.declared.fault.SessionFault.{SessionFault}
 use Rattle.session.specs.declared.fault.SessionFault.TheVariants.{ReadFailed, WriteFailed}
 use Rattle.session.specs.declared.over_source.SessionEnd.{SessionEnd}
-use Rattle.session.specs.declared.session_output.Said.{Said}
+use Rattle.session.specs.declared.session_output.OutputBuffers.{OutputBuffers}
 use Rattle.session.proofs.Blocks.{all_after_talk, all_session_output_is_front, part_by, session_feed_keeps_input}
 use Rattle.session.proofs.Blocks.{session_feed_keeps_left_and_more, waits_after_output, whole_at, written}
 use Rattle.session.proofs.BrokenAnswers.{talk_breaks_off_after_all_lines, talk_breaks_off_by_cause}
@@ -74,60 +74,62 @@ fed_talk_goes_on fed base first taken bytes left more held now is up =
 module _ (first : SessionTrace) (taken block ready rest left more : List ℕ) (b : block ≡ ready ++ rest)
     (held : Option (List ℕ)) (session : SessionState) (start now : SessionOutside)
     (w : SessionWaitsForInput first (taken ++ ready) held session start now) (fed : Result Bool SessionFault)
-    (held_now : Option (List ℕ)) (said : Said) (new : SessionState) (after : SessionOutside)
+    (held_now : Option (List ℕ)) (buffers : OutputBuffers) (new : SessionState) (after : SessionOutside)
     (up : IsTalkFed fed (written first (taken ++ ready) held session start now w) first (taken ++ ready) rest left more
-    held_now (session_now_of said new after.files after.steps)) where
+    held_now (session_now_of buffers new after.files after.steps)) where
   abbrev stood : SessionBase
   stood = written first (taken ++ ready) held session start now w
 
   abbrev stands_now : SessionNow
-  stands_now = session_now_of said new after.files after.steps
+  stands_now = session_now_of buffers new after.files after.steps
 
   abbrev all_input : List ℕ
   all_input = (taken ++ block) ++ more
 
   -- the output is written in part, and it is a part of the whole
-  part_if : SinkGrowsByPrefix now.out after.out said.out.items → SinkGrowsByPrefix now.err after.err said.err.items
+  part_if : SinkGrowsByPrefix now.out after.out buffers.out.items
+      → SinkGrowsByPrefix now.err after.err buffers.err.items
       → IsSessionPartIf (fed ≡ Err WriteFailed) (session_course first all_input) start after
   part_if o e =
-      part_by first (taken ++ ready) held session start now w (fed ≡ Err WriteFailed) all_input said new after
+      part_by first (taken ++ ready) held session start now w (fed ≡ Err WriteFailed) all_input buffers new after
       (subst (λ i. TalkBreaksOff (fed ≡ Err WriteFailed) stood first (heard_lines (input_lines i)) stands_now)
       (session_feed_keeps_input taken block ready rest more b)
       (fed_talk_may_break_off fed stood first (taken ++ ready) rest left more held_now stands_now up)) o e
 
   -- the output is written in part
-  pub part_written : SinkGrowsByPrefix now.out after.out said.out.items
-      → SinkGrowsByPrefix now.err after.err said.err.items
+  pub part_written : SinkGrowsByPrefix now.out after.out buffers.out.items
+      → SinkGrowsByPrefix now.err after.err buffers.err.items
       → (fed ≡ Err WriteFailed → HasIoCountRisen start.store_faults after.store_faults)
       → IsSessionPrefixRunExceptFile (session_course first all_input) start after
   part_written o e rose = part_but Bool fed first all_input start after (part_if o e) rose
 
   -- the output is written in full, and it is the last
-  whole_written : after.out ≡ sink_bytes_append now.out said.out.items
-      → after.err ≡ sink_bytes_append now.err said.err.items
+  whole_written : after.out ≡ sink_bytes_append now.out buffers.out.items
+      → after.err ≡ sink_bytes_append now.err buffers.err.items
       → fed ≡ Ok true
       → IsAllSessionOutput (talk_output (talk_over_input first all_input)) start after
   whole_written o e is =
-      whole_at first (taken ++ ready) held session start now w (((taken ++ ready) ++ rest) ++ more) all_input said new
+      whole_at first (taken ++ ready) held session start now w
+      (((taken ++ ready) ++ rest) ++ more) all_input buffers new
       after (session_feed_keeps_input taken block ready rest more b)
       (fed_talk_is_over fed stood first (taken ++ ready) rest left more held_now stands_now is up).is_at o e
 
   -- the output is written in full, and the session ended
   pub ended_written : (ending : SessionEnd) → Some ending ≡ session_end_after_feed fed
-      → after.out ≡ sink_bytes_append now.out said.out.items
-      → after.err ≡ sink_bytes_append now.err said.err.items
+      → after.out ≡ sink_bytes_append now.out buffers.out.items
+      → after.err ≡ sink_bytes_append now.err buffers.err.items
       → (fed ≡ Err ReadFailed → HasIoCountRisen start.fetch_faults after.fetch_faults)
       → (fed ≡ Err WriteFailed → HasIoCountRisen start.store_faults after.store_faults)
       → IsSessionEnded (session_course first all_input) ending start after
   ended_written ending q o e rose stored =
       session_ended_within_block fed ending first all_input start after q
-      (part_if (all_session_output_is_front now.out after.out said.out.items o)
-      (all_session_output_is_front now.err after.err said.err.items e))
+      (part_if (all_session_output_is_front now.out after.out buffers.out.items o)
+      (all_session_output_is_front now.err after.err buffers.err.items e))
       (whole_written o e) rose stored
 
   -- the output is written in full, and the session goes on after more of the block
-  pub waits_on : after.out ≡ sink_bytes_append now.out said.out.items
-      → after.err ≡ sink_bytes_append now.err said.err.items
+  pub waits_on : after.out ≡ sink_bytes_append now.out buffers.out.items
+      → after.err ≡ sink_bytes_append now.err buffers.err.items
       → fed ≡ Ok false
       → (done : List ℕ) × (block ≡ done ++ left) × SessionWaitsForInput first (taken ++ done) held_now new start after
   waits_on o e is =
@@ -135,7 +137,8 @@ module _ (first : SessionTrace) (taken block ready rest left more : List ℕ) (b
         ready ++ on.0,
         b ∙ ap (λ t. ready ++ t) on.1 ∙ sym (append_assoc ready on.0 left),
         subst (λ t. SessionWaitsForInput first t held_now new start after) (append_assoc taken ready on.0)
-            (waits_after_output first (taken ++ ready) held session start now w ((taken ++ ready) ++ on.0) held_now said
+            (waits_after_output first (taken ++ ready) held session start now w
+            ((taken ++ ready) ++ on.0) held_now buffers
             new after
             on.2 o e),
       )
@@ -180,23 +183,24 @@ session_waits_after_block first taken block ready rest held session start now b 
 module _ (first : SessionTrace) (input : List ℕ) (held : Option (List ℕ)) (session : SessionState)
     (start now : SessionOutside)
     (w : SessionWaitsForInput first input held session start now) (A : Type 0) (fed : Result A SessionFault)
-    (said : Said)
+    (buffers : OutputBuffers)
     (new : SessionState) (after : SessionOutside)
     (up : MatchResult fed
     (λ _. IsAtPointOfTalk (written first input held session start now w) (talk_over_input first input)
-    (session_now_of said new after.files after.steps))
+    (session_now_of buffers new after.files after.steps))
     (λ fault. IsTalkBroken fault (written first input held session start now w) first (heard_lines (input_lines input))
-    (session_now_of said new after.files after.steps))) where
+    (session_now_of buffers new after.files after.steps))) where
   abbrev stood_last : SessionBase
   stood_last = written first input held session start now w
 
   abbrev stands_last : SessionNow
-  stands_last = session_now_of said new after.files after.steps
+  stands_last = session_now_of buffers new after.files after.steps
 
-  last_if : SinkGrowsByPrefix now.out after.out said.out.items → SinkGrowsByPrefix now.err after.err said.err.items
+  last_if : SinkGrowsByPrefix now.out after.out buffers.out.items
+      → SinkGrowsByPrefix now.err after.err buffers.err.items
       → IsSessionPartIf (fed ≡ Err WriteFailed) (session_course first input) start after
   last_if o e =
-      part_by first input held session start now w (fed ≡ Err WriteFailed) input said new after (by fed up) o e
+      part_by first input held session start now w (fed ≡ Err WriteFailed) input buffers new after (by fed up) o e
     where
       by : (r : Result A SessionFault)
           → MatchResult r (λ _. IsAtPointOfTalk stood_last (talk_over_input first input) stands_last)
@@ -210,24 +214,24 @@ module _ (first : SessionTrace) (input : List ℕ) (held : Option (List ℕ)) (s
           stands_last (λ is. ap Err is) broken
 
   -- the last output is written in part
-  pub last_part : SinkGrowsByPrefix now.out after.out said.out.items
-      → SinkGrowsByPrefix now.err after.err said.err.items
+  pub last_part : SinkGrowsByPrefix now.out after.out buffers.out.items
+      → SinkGrowsByPrefix now.err after.err buffers.err.items
       → (fed ≡ Err WriteFailed → HasIoCountRisen start.store_faults after.store_faults)
       → IsSessionPrefixRunExceptFile (session_course first input) start after
   last_part o e rose = part_but A fed first input start after (last_if o e) rose
 
   -- the last output is written in full, and the session ends
   pub last_written : (ending : SessionEnd) → ending ≡ session_end_at_input_end fed
-      → after.out ≡ sink_bytes_append now.out said.out.items
-      → after.err ≡ sink_bytes_append now.err said.err.items
+      → after.out ≡ sink_bytes_append now.out buffers.out.items
+      → after.err ≡ sink_bytes_append now.err buffers.err.items
       → (fed ≡ Err ReadFailed → HasIoCountRisen start.fetch_faults after.fetch_faults)
       → (fed ≡ Err WriteFailed → HasIoCountRisen start.store_faults after.store_faults)
       → IsSessionEnded (session_course first input) ending start after
   last_written ending q o e rose stored =
       subst (λ (x : SessionEnd). IsSessionEnded (session_course first input) x start after) (sym q)
       (by fed up
-      (last_if (all_session_output_is_front now.out after.out said.out.items o)
-      (all_session_output_is_front now.err after.err said.err.items e))
+      (last_if (all_session_output_is_front now.out after.out buffers.out.items o)
+      (all_session_output_is_front now.err after.err buffers.err.items e))
       rose stored)
     where
       by : (r : Result A SessionFault)
@@ -238,5 +242,5 @@ module _ (first : SessionTrace) (input : List ℕ) (held : Option (List ℕ)) (s
           → (r ≡ Err WriteFailed → HasIoCountRisen start.store_faults after.store_faults)
           → IsSessionEnded (session_course first input) (session_end_at_input_end r) start after
       by (Ok done) at part f s =
-          all_after_talk first input held session start now w (talk_over_input first input) said new after at o e
+          all_after_talk first input held session start now w (talk_over_input first input) buffers new after at o e
       by (Err fault) broken part f s = by_fault A (Err fault) first input start after part fault refl f s

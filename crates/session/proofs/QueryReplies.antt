@@ -14,7 +14,7 @@ use Rattle.live_table.specs.TableView.{IsAfterLiveEvents, LiveView}
 use Rattle.live_table.specs.States.{LiveEvent}
 use Rattle.reply.specs.declared.options.Options.{Options}
 use Rattle.survey.specs.ConversionReplies.{asked_conversion}
-use Rattle.session.specs.Parts.{AnswersSessionQuery, IsSessionQueryAnswered, Said}
+use Rattle.session.specs.Parts.{AnswersSessionQuery, IsSessionQueryAnswered, OutputBuffers}
 use Rattle.session.specs.Queries.{session_table_after_events}
 use Rattle.session.specs.Sessions.{session_and_files, session_of, session_of_versions}
 use Rattle.session.specs.Steps.{session_expression_answer}
@@ -48,16 +48,16 @@ pub pending_conversion_is_answered : (options : Options) (old new : LiveView) (h
     → AnswersSessionQuery (asked_conversion (table_in old.deck) options from_too text).queries
     (asked_conversion (table_in old.deck) options from_too text).reply.text reply.out old new n k
     → reply.err ≡ [] → new.deck ≡ old.deck
-    → Said (session_expression_answer pending text
+    → OutputBuffers (session_expression_answer pending text
     (session_and_files (session_of_versions options (session_table_with_versions old history) pending watched) m)) reply
     (session_of_versions options (session_table_with_versions new history) pending_now watched) n k
 pending_conversion_is_answered options old new history pending pending_now watched m from from_too text reply n k is
     taken same
     replied quiet deck =
-    subst (λ (p : Option (List ℕ)). Said (session_expression_answer p text
+    subst (λ (p : Option (List ℕ)). OutputBuffers (session_expression_answer p text
     (session_and_files (session_of_versions options (session_table_with_versions old history) pending watched) m)) reply
     (session_of_versions options (session_table_with_versions new history) pending_now watched) n k) is
-    (subst (λ (f : List ℕ). Said (session_expression_answer (Some f) text
+    (subst (λ (f : List ℕ). OutputBuffers (session_expression_answer (Some f) text
     (session_and_files (session_of_versions options (session_table_with_versions old history) pending watched) m)) reply
     (session_of_versions options (session_table_with_versions new history) pending_now watched) n k) same
     (record {

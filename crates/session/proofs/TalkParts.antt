@@ -87,7 +87,7 @@ module _ (first : SessionTrace) (taken : List ℕ)
 -- the output at a point of a talk is a front of that of everything that follows
 pub talk_output_is_front_of_later : (base : SessionBase) (talk more : SessionTrace) (lines : List (List ℕ))
     (now : SessionNow) → IsAtPointOfTalk base talk now
-    → more ≡ talk_over_lines talk lines → IsFrontOfTalk base more now.said_output
+    → more ≡ talk_over_lines talk lines → IsFrontOfTalk base more now.output_buffers
 talk_output_is_front_of_later base talk more lines now at e = record {
   out = talk-front-of-front _ talk.out more.out (whole-talk-is-front _ talk.out at.out)
       (subst (λ (t : SessionTrace). BeginsTalkOutput talk.out t.out) (sym e) (talk-out-grows talk lines));

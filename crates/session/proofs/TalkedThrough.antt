@@ -19,34 +19,34 @@ use Rattle.session.specs.TrialLines.{trial_definitions, trial_rounds_text}
 use Rattle.session.specs.Trials.{Trial, quiet_trial_session, silent_talk, trial_deck, trial_over, trial_session}
 use Rattle.session.specs.Trials.{trial_summary}
 use Rattle.session.specs.BetweenPieces.{session_base_at_start}
-use Rattle.session.specs.declared.session_output.Said.{Said}
+use Rattle.session.specs.declared.session_output.OutputBuffers.{OutputBuffers}
 use Rattle.session.proofs.HeldLine.{short_session_line_is_readable}
 use Rattle.session.proofs.OutputPieces.{fed_talk_goes_on, fed_talk_is_over}
 
 -- a session without output and with nothing held is at its beginning
 pub silent_talk_at_start :
-    (session : SessionState) (said : Said) (held : Option (List ℕ)) (steps : ℕ) → said.out.items ≡ []
-    → said.err.items ≡ []
+    (session : SessionState) (buffers : OutputBuffers) (held : Option (List ℕ)) (steps : ℕ) → buffers.out.items ≡ []
+    → buffers.err.items ≡ []
     → held ≡ Some []
     → IsTalkAtWholeLines (session_base_at_start (Some no_files_in_map) steps) (silent_talk session) [] held
-    (record { said_output = said; session = session; files = Some no_files_in_map; steps = steps })
-silent_talk_at_start session said held steps o e h = record {
+    (record { output_buffers = buffers; session = session; files = Some no_files_in_map; steps = steps })
+silent_talk_at_start session buffers held steps o e h = record {
   is_at = record { out = sym o; err = sym e; session = refl; files = refl; steps = omega arith };
   going = refl;
   held_part = h ∙ sym (short_session_line_is_readable [] (omega arith));
 }
 
--- the session is after a talk, and has said all of it
+-- the session is after a talk, and has written all of it
 pub talk_is_spoken_at_its_point : (talk : SessionTrace) (now : SessionNow) (steps : ℕ)
     → IsAtPointOfTalk (session_base_at_start (Some no_files_in_map) steps) talk now
-    → IsTalkSpoken talk now.said_output now.session steps now.steps
+    → IsTalkSpoken talk now.output_buffers now.session steps now.steps
 talk_is_spoken_at_its_point talk now steps at = record { out = sym at.out; session = at.session; steps = at.steps }
 
--- the session is after the last line of a talk, and has said all of it
+-- the session is after the last line of a talk, and has written all of it
 pub talk_is_spoken_when_over : (first : SessionTrace) (lines : List ℕ) (now : SessionNow) (steps : ℕ)
     → IsTalkOver (session_base_at_start (Some no_files_in_map) steps) first lines
     (lines ++ []) now
-    → IsTalkSpoken (talk_over_input first lines) now.said_output now.session steps now.steps
+    → IsTalkSpoken (talk_over_input first lines) now.output_buffers now.session steps now.steps
 talk_is_spoken_when_over first lines now steps over =
     talk_is_spoken_at_its_point (talk_over_input first lines) now steps
     (subst (λ bytes. IsAtPointOfTalk (session_base_at_start (Some no_files_in_map) steps) (talk_over_input first bytes)
@@ -91,21 +91,21 @@ trial_summary_is_given (Err fault) n bytes table trial_session old new tells is 
 -- a trial over the deck of its definitions
 pub trial_over_its_deck : (options : Options) (settings : Settings) (n : ℕ) (deck : DeckContents)
     (source lines : List ℕ)
-    (first last : SessionState) (said : Said) (bytes : ℕ) (table : LiveView) (text : List ℕ) (old new : ℕ)
+    (first last : SessionState) (buffers : OutputBuffers) (bytes : ℕ) (table : LiveView) (text : List ℕ) (old new : ℕ)
     → source ≡ trial_definitions n → deck ≡ text_deck (codes "trial") source settings
     → first ≡ quiet_trial_session options deck
-    → lines ≡ trial_rounds_text n n → IsTalkSpoken (talk_over_input (silent_talk first) lines) said last old new
-    → bytes ≡ length said.out.items
+    → lines ≡ trial_rounds_text n n → IsTalkSpoken (talk_over_input (silent_talk first) lines) buffers last old new
+    → bytes ≡ length buffers.out.items
     → table ≡ last.table → text ≡ trial_summary n bytes table → IsTrialSummary (trial_session options settings n) text
     old new
 unfolding trial_session
-trial_over_its_deck options settings n deck source lines first last said bytes table text old new e d f l t b s h =
+trial_over_its_deck options settings n deck source lines first last buffers bytes table text old new e d f l t b s h =
     let made : deck ≡ trial_deck settings n = d ∙ ap (λ bytes. text_deck (codes "trial") bytes settings) e in
     let talk = talk_over_input (silent_talk (quiet_trial_session options deck)) (trial_rounds_text n n) in
-    let talked : IsTalkSpoken talk said last old new =
-    subst (λ (known : SessionState). IsTalkSpoken (talk_over_input (silent_talk known) (trial_rounds_text n n)) said
+    let talked : IsTalkSpoken talk buffers last old new =
+    subst (λ (known : SessionState). IsTalkSpoken (talk_over_input (silent_talk known) (trial_rounds_text n n)) buffers
     last old new) f
-    (subst (λ ls. IsTalkSpoken (talk_over_input (silent_talk first) ls) said last old new) l t) in
+    (subst (λ ls. IsTalkSpoken (talk_over_input (silent_talk first) ls) buffers last old new) l t) in
     let tells : IsTrialSummary (trial_over options n deck) text old new = record {
       text = h ∙ ap (λ k. trial_summary n k table) (b ∙ ap length talked.out)
           ∙ ap (trial_summary n (length talk.out)) (s ∙ ap (λ (known : SessionState). known.table) talked.session);

@@ -12,7 +12,7 @@ use Rattle.live_table.proofs.QuerySequence.{live_event_runs_in_turn}
 use Rattle.reply.specs.declared.options.Options.{Options}
 use Rattle.session.specs.Answers.{session_edit_answer}
 use Rattle.session.specs.EditResults.{EditResult, Refused}
-use Rattle.session.specs.Parts.{IsSessionEditAnswered, MakesSessionEdit, Said}
+use Rattle.session.specs.Parts.{IsSessionEditAnswered, MakesSessionEdit, OutputBuffers}
 use Rattle.session.specs.Queries.{LeavesSessionTable, session_table_after_events}
 use Rattle.session.specs.Sessions.{SessionAndFiles, session_and_files, session_of, session_of_versions}
 use Rattle.session.specs.Versions.{SessionTableAndVersions, session_table_with_versions, session_versions}
@@ -29,10 +29,10 @@ no_more_session_steps : (n : ℕ) → n ≡ n + 0
 no_more_session_steps n = omega arith
 
 -- the result says that the edit was made
-pub session_reports_edit_made : (r : EditResult) (said : Declared) (old new : SessionTableAndVersions)
-    → said ≡ answer.Made
-    → IsSessionEditAnswered {E = SessionFault} r (Ok said) old new → MakesSessionEdit r old new
-session_reports_edit_made r said old new e is =
+pub session_reports_edit_made : (r : EditResult) (buffers : Declared) (old new : SessionTableAndVersions)
+    → buffers ≡ answer.Made
+    → IsSessionEditAnswered {E = SessionFault} r (Ok buffers) old new → MakesSessionEdit r old new
+session_reports_edit_made r buffers old new e is =
     subst (λ (a : Declared). IsSessionEditAnswered {E = SessionFault} r (Ok a) old new) e is
 
 module _ (r : EditResult) (notices : List ℕ) (options : Options) (pending : Option (List ℕ)) (m : FileMap)
@@ -45,9 +45,9 @@ module _ (r : EditResult) (notices : List ℕ) (options : Options) (pending : Op
   pub refused_answered : (new : SessionTableAndVersions) (n : ℕ) → r ≡ Refused reply.out
       → new ≡ session_table_with_versions old before
       → reply.err ≡ []
-      → Said (session_edit_answer r notices was) reply (session_of_versions options new pending watched) n n
+      → OutputBuffers (session_edit_answer r notices was) reply (session_of_versions options new pending watched) n n
   refused_answered new n is same quiet =
-      subst (λ (e : EditResult). Said (session_edit_answer e notices was) reply
+      subst (λ (e : EditResult). OutputBuffers (session_edit_answer e notices was) reply
       (session_of_versions options new pending watched) n n)
       (sym is) (record {
         out = refl;
@@ -88,10 +88,10 @@ module _ (r : EditResult) (notices : List ℕ) (options : Options) (pending : Op
     -- the edit was made, and the watched conversions that it changed are reported
     pub made_answered : reply.out ≡ report_by_edit (table_in old.deck) (table_in mid.deck) options watched
         → reply.err ≡ notices
-        → Said (session_edit_answer r notices was) reply
+        → OutputBuffers (session_edit_answer r notices was) reply
         (session_of_versions options (session_table_with_versions new after) pending watched_now) n k
     made_answered report_text noticed =
-        subst (λ (e : EditResult). Said (session_edit_answer e notices was) reply
+        subst (λ (e : EditResult). OutputBuffers (session_edit_answer e notices was) reply
         (session_of_versions options (session_table_with_versions new after) pending watched_now) n k)
         (sym makes.result_is)
         (record { out = report_text; err = noticed; session = behind; steps = left.steps })

@@ -14,7 +14,7 @@ use Rattle.live_table.specs.TableView.{IsAfterLiveEvents, LiveView}
 use Rattle.live_table.specs.States.{LiveEvent}
 use Rattle.reply.specs.declared.options.Options.{Options}
 use Rattle.session.specs.Answers.{session_watch_answer}
-use Rattle.session.specs.Parts.{Said}
+use Rattle.session.specs.Parts.{OutputBuffers}
 use Rattle.session.specs.Queries.{LeavesSessionTable, session_table_after_events}
 use Rattle.session.specs.Sessions.{session_and_files, session_of}
 use Rattle.session.specs.Versions.{Versions}
@@ -63,12 +63,12 @@ module _ (options : Options) (pending : Option (List ℕ)) (versions : Versions)
       → reply.out ≡ watch_notice (length watches + 1) (reply_to (table_in old.deck) options s) → reply.err ≡ []
       → now ≡ watches ++ watch_on (table_in old.deck) options s ∷ [] → IsAfterLiveEvents events old new n k
       → new.deck ≡ old.deck
-      → Said (session_watch_answer (is_session_watch_list_full (map subject_of_watch watches)) s
+      → OutputBuffers (session_watch_answer (is_session_watch_list_full (map subject_of_watch watches)) s
       (session_and_files (session_of options old pending versions (map subject_of_watch watches)) m)) reply
       (session_of options new pending versions (map subject_of_watch now)) n k
   watch_answered room report_text quiet added asked deck =
       let left : LeavesSessionTable events old new n k = leaves events old new n k asked in
-      subst (λ (full : Bool). Said (session_watch_answer full s
+      subst (λ (full : Bool). OutputBuffers (session_watch_answer full s
       (session_and_files (session_of options old pending versions (map subject_of_watch watches)) m)) reply
       (session_of options new pending versions (map subject_of_watch now)) n k)
       (sym (session_watch_list_is_not_full watches room))

@@ -11,14 +11,14 @@ use Rattle.session.specs.Sessions.{SessionState}
 use Rattle.session.specs.SessionProgress.{IsAtPointOfTalk, SessionBase}
 use Rattle.session.specs.Talks.{SessionTrace, talk_over_lines}
 use Rattle.session.specs.KnownContents.{next_session_value_if_known}
-use Rattle.session.specs.declared.session_output.Said.{Said}
+use Rattle.session.specs.declared.session_output.OutputBuffers.{OutputBuffers}
 
 -- the base of a session before which nothing was written
 abbrev pub session_base_at_start : (files : Option FileMap) → (steps : ℕ) → SessionBase
 session_base_at_start files steps = record { out = []; err = []; files = files; steps = steps }
 
 -- a session was opened after the planning, which wrote nothing; the opening is not written yet
-pub record OpensSession (first : SessionTrace) (said : Said) (session : SessionState)
+pub record OpensSession (first : SessionTrace) (buffers : OutputBuffers) (session : SessionState)
     (before now : SessionOutside) : Type 0 where
   pub out : now.out ≡ before.out
   pub err : now.err ≡ before.err
@@ -26,7 +26,7 @@ pub record OpensSession (first : SessionTrace) (said : Said) (session : SessionS
   pub faults : before.fetch_faults ≤ now.fetch_faults
   pub stores : before.store_faults ≤ now.store_faults
   pub is_at : IsAtPointOfTalk (session_base_at_start before.files before.steps) first
-      (record { said_output = said; session = session; files = now.files; steps = now.steps })
+      (record { output_buffers = buffers; session = session; files = now.files; steps = now.steps })
 
 -- the complete lines of the bytes read are answered and their output is written, none of them is the last, and the rest
 -- is held

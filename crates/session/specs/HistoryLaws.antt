@@ -67,7 +67,7 @@ pub record IsSameAnswerButVersions (a b : SessionAnswer) : Type 0 where
   pub versions : Versions
   pub same_state : b.state_after ≡ session_with_versions versions a.state_after
 
--- two talks have said the same bytes, and their states differ only in the cache and its count
+-- two talks have the same output, and their states differ only in the cache and its count
 pub record AreSameTalksButCache (a b : SessionTrace) : Type 0 where
   pub out : b.out ≡ a.out
   pub err : b.err ≡ a.err

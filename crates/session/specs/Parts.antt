@@ -47,7 +47,8 @@ pub record IsSessionLineReply (reply : LineReply) (text notices : List ℕ) (las
   pub ends_session : reply.done ≡ last
 
 -- an answer that leaves the files as they are
-pub record Said (answer : SessionAnswer) (reply : LineReply) (new : SessionState) (steps_old steps_new : ℕ) : Type 0
+pub record OutputBuffers (answer : SessionAnswer) (reply : LineReply) (new : SessionState)
+    (steps_old steps_new : ℕ) : Type 0
   where
     pub out : reply.out ≡ answer.out
     pub err : reply.err ≡ answer.err
@@ -57,7 +58,8 @@ pub record Said (answer : SessionAnswer) (reply : LineReply) (new : SessionState
 abbrev pub IsSessionAnswerGiven : {E : Type 0} → SessionAnswer → Result LineReply E → (new : SessionState)
     → (steps_old steps_new : ℕ)
     → Type 0
-IsSessionAnswerGiven answer (Ok reply) session steps_old steps_new = Said answer reply session steps_old steps_new
+IsSessionAnswerGiven answer (Ok reply) session steps_old steps_new =
+    OutputBuffers answer reply session steps_old steps_new
 IsSessionAnswerGiven answer (Err _) session steps_old steps_new = ⊤
 
 -- the output of a line on `out`: its answer, and the prompt for the next line unless it was the last

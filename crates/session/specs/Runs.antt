@@ -18,7 +18,7 @@ use Rattle.session.specs.declared.fault.SessionFault.TheVariants.{ReadFailed, Wr
 use Rattle.session.specs.declared.over_source.SessionEnd.{SessionEnd}
 use Rattle.session.specs.declared.over_source.SessionEnd.TheVariants.{Done, ReadFault, WriteFault, NoMemory}
 use Rattle.session.specs.declared.over_source.SessionEnd.TheVariants.{InputTooLong}
-use Rattle.session.specs.declared.session_output.Said.{Said}
+use Rattle.session.specs.declared.session_output.OutputBuffers.{OutputBuffers}
 
 -- the cause of an ending other than the end of the input or of the session: a read or a fetch failed, a write or a
 -- store failed, or more bytes were read than the limit
@@ -37,8 +37,8 @@ pub record HaveSessionSinksGrown (before after : SessionWorld) : Type 0 where
   pub out : SessionSinkGrowsAtLeast before.out.bytes_written after.out.bytes_written []
   pub err : SessionSinkGrowsAtLeast before.err.bytes_written after.err.bytes_written []
 
--- a session wrote its opening `said`, answered the lines of a source, and ended in this way
-pub record IsSessionRun (said : Said) (session : SessionState) (ending : SessionEnd)
+-- a session wrote its opening output, answered the lines of a source, and ended in this way
+pub record IsSessionRun (buffers : OutputBuffers) (session : SessionState) (ending : SessionEnd)
     (before after : SessionWorld) : Type 0
   where
     -- after `Done` both sinks have everything that the session says over its whole input, and the files are as it
@@ -51,7 +51,7 @@ pub record IsSessionRun (said : Said) (session : SessionState) (ending : Session
         → before.source.input_left ≡ Some input
         →
         IsSessionValueKnownIfNeeded (heard_input_loads_file input) before.files.known_files
-        → OpensSession first said session start (session_world_outside before)
+        → OpensSession first buffers session start (session_world_outside before)
         →
         IsSessionEnded (session_course first input) ending start (session_world_outside after)
     -- a session that ended with `Done` has read its input to the end, or to a line that ends it

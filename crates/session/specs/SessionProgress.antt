@@ -11,7 +11,7 @@ use Rattle.session.specs.Talks.{SessionTrace, talk_over_lines, talk_over_input}
 use Rattle.session.specs.KnownContents.{next_session_value_if_known}
 use Rattle.session.specs.declared.fault.SessionFault.{SessionFault}
 use Rattle.session.specs.declared.fault.SessionFault.TheVariants.{WriteFailed}
-use Rattle.session.specs.declared.session_output.Said.{Said}
+use Rattle.session.specs.declared.session_output.OutputBuffers.{OutputBuffers}
 
 -- the output before the session, the known contents of the files, and the count of steps at the start
 pub record SessionBase : Type 0 where
@@ -22,18 +22,24 @@ pub record SessionBase : Type 0 where
 
 -- the state of the program: the output that is not written yet, the session, the files, and the count of steps
 pub record SessionNow : Type 0 where
-  pub said_output : Said
+  pub output_buffers : OutputBuffers
   pub session : SessionState
   pub files : Option FileMap
   pub steps : ℕ
 
-abbrev pub session_now_of : Said → SessionState → (files : Option FileMap) → (steps : ℕ) → SessionNow
-session_now_of said session files steps = record { said_output = said; session = session; files = files; steps = steps }
+abbrev pub session_now_of : OutputBuffers → SessionState → (files : Option FileMap) → (steps : ℕ) → SessionNow
+session_now_of buffers session files steps = record {
+  output_buffers = buffers;
+  session = session;
+  files =
+      files;
+  steps = steps;
+}
 
 -- the program is at this point of the talk; files whose contents are not known may hold anything
 pub record IsAtPointOfTalk (base : SessionBase) (talk : SessionTrace) (now : SessionNow) : Type 0 where
-  pub out : talk.out ≡ base.out ++ now.said_output.out.items
-  pub err : talk.err ≡ base.err ++ now.said_output.err.items
+  pub out : talk.out ≡ base.out ++ now.output_buffers.out.items
+  pub err : talk.err ≡ base.err ++ now.output_buffers.err.items
   pub session : now.session ≡ talk.state.session
   pub files : now.files ≡ next_session_value_if_known base.files talk.state.files
   pub steps : now.steps ≡ base.steps + talk.steps
@@ -43,9 +49,9 @@ abbrev pub BeginsTalkOutput : List ℕ → List ℕ → Type 0
 BeginsTalkOutput xs ys = (rest : List ℕ) × (ys ≡ xs ++ rest)
 
 -- the output is a front of that of a talk
-pub record IsFrontOfTalk (base : SessionBase) (talk : SessionTrace) (said : Said) : Type 0 where
-  pub out : BeginsTalkOutput (base.out ++ said.out.items) talk.out
-  pub err : BeginsTalkOutput (base.err ++ said.err.items) talk.err
+pub record IsFrontOfTalk (base : SessionBase) (talk : SessionTrace) (buffers : OutputBuffers) : Type 0 where
+  pub out : BeginsTalkOutput (base.out ++ buffers.out.items) talk.out
+  pub err : BeginsTalkOutput (base.err ++ buffers.err.items) talk.err
 
 -- the lines up to some line are answered, and the others are not: the output is a front of the talk over the answered
 -- lines, and the files are as that talk leaves them, or, only if a store failed, with the file damaged that the next
@@ -56,7 +62,7 @@ pub record TalkBreaksOff (failed : Type 0) (base : SessionBase) (talk : SessionT
     pub answered_lines : List (List ℕ)
     pub lines_left : List (List ℕ)
     pub lines_split : lines ≡ answered_lines ++ lines_left
-    pub output_before : IsFrontOfTalk base (talk_over_lines talk answered_lines) now.said_output
+    pub output_before : IsFrontOfTalk base (talk_over_lines talk answered_lines) now.output_buffers
     pub files_left : (m : FileMap) × (now.files ≡ next_session_value_if_known base.files m)
         × AreFilesLeftBySession failed lines_left (talk_over_lines talk answered_lines).state.files m
 

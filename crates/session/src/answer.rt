@@ -81,7 +81,7 @@ impl Workspace {
         steps: &mut Steps<L>,
     ) -> Result<LineReply, SessionFault>
         requires parts { IsOneSession self.old }
-        ensures said { (m : FileMap)
+        ensures answer { (m : FileMap)
             → IsSessionAnswerGiven (spec.pending_from_answer text.now (session_and_files (session_in self.old) m))
             result (session_in self.new) steps.old steps.new }
         ensures done { IfOk result (λ reply. reply.done ≡ false) }
@@ -107,7 +107,7 @@ impl Workspace {
         steps: &mut Steps<L>,
     ) -> Result<LineReply, SessionFault>
         requires parts { IsOneSession self.old }
-        ensures said { (m : FileMap) → IsSessionAnswerGiven
+        ensures answer { (m : FileMap) → IsSessionAnswerGiven
             (spec.session_blank_answer self.old.pending (session_and_files (session_in self.old) m))
             result (session_in self.new) steps.old steps.new }
         ensures done { IfOk result (λ reply. reply.done ≡ false) }
@@ -129,7 +129,7 @@ impl Workspace {
         steps: &mut Steps<L>,
     ) -> Result<LineReply, SessionFault>
         requires parts { IsOneSession self.old }
-        ensures said { (m : FileMap) → IsSessionAnswerGiven
+        ensures answer { (m : FileMap) → IsSessionAnswerGiven
             (spec.session_conformable_answer self.old.pending (session_and_files (session_in self.old) m))
             result (session_in self.new) steps.old steps.new }
         ensures done { IfOk result (λ reply. reply.done ≡ false) }
@@ -152,7 +152,7 @@ impl Workspace {
         steps: &mut Steps<L>,
     ) -> Result<LineReply, SessionFault>
         requires parts { IsOneSession self.old }
-        ensures said { (m : FileMap) → IsSessionAnswerGiven
+        ensures answer { (m : FileMap) → IsSessionAnswerGiven
             (spec.session_expression_answer self.old.pending text.now (session_and_files (session_in self.old) m))
             result (session_in self.new) steps.old steps.new }
         ensures done { IfOk result (λ reply. reply.done ≡ false) }
@@ -177,7 +177,7 @@ impl Workspace {
     ) -> Result<LineReply, SessionFault>
         requires parts { IsOneSession self.old }
         requires no_file { commands.session_command_names_file (session_command_view command) ≡ false }
-        ensures said { (m : FileMap) → IsSessionAnswerGiven
+        ensures answer { (m : FileMap) → IsSessionAnswerGiven
             (spec.session_answer_to (session_and_files (session_in self.old) m) (session_command_view command.entry))
             result (session_in self.new) steps.old steps.new }
         ensures done { IfOk result

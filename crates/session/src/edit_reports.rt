@@ -41,7 +41,7 @@ impl Workspace {
         steps: &mut Steps<L>,
     ) -> Result<LineReply, SessionFault>
         requires parts { IsOneSession self.old }
-        ensures said { (m : FileMap) → IsSessionAnswerGiven
+        ensures answer { (m : FileMap) → IsSessionAnswerGiven
             (session_edit_answer (session_result_of_edit (session_edit_view change.entry)
             (session_table_with_versions self.old.table self.old.history)) []
             (session_and_files (session_in self.old) m))
@@ -75,7 +75,7 @@ impl Workspace {
         steps: &mut Steps<L>,
     ) -> Result<LineReply, SessionFault>
         requires parts { IsOneSession self.old }
-        ensures said { (m : FileMap) → F.files files.old ≡ Some m
+        ensures answer { (m : FileMap) → F.files files.old ≡ Some m
             → IsSessionAnswerGiven (spec.session_answer_to (session_and_files (session_in self.old) m)
             (commands.Load name.now)) result (session_in self.new) steps.old steps.new }
         ensures done { IfOk result (λ reply. reply.done ≡ false) }

@@ -34,6 +34,6 @@ pub use lines::notice_lines;
 pub use listener::Listener;
 pub use over_source::SessionEnd;
 pub use session::Session;
-pub use session_output::Said;
+pub use session_output::OutputBuffers;
 pub use text_decks::text_deck;
 pub use trial::run_trial;

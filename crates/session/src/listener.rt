@@ -17,7 +17,7 @@ ghost use Rattle.session.specs.KnownContents.{IsSessionValueKnownIfNeeded};
 use crate::fault::SessionFault;
 use crate::partial_line::{Held, LONGEST_LINE};
 use crate::session::Session;
-use crate::session_output::Said;
+use crate::session_output::OutputBuffers;
 use crate::talk::Talk;
 use def_entry::cut_at;
 use std::alloc::Global;
@@ -35,13 +35,13 @@ pub struct Listener {
 
 impl Listener {
     /// Returns a session that has read nothing yet, with output that it has not written yet. Allocates no memory.
-    pub fn new(alloc: Global, session: Session, said: Said) -> Listener
-        ensures talk { result.talk ≡ record { session = session; said = said } }
+    pub fn new(alloc: Global, session: Session, buffers: OutputBuffers) -> Listener
+        ensures talk { result.talk ≡ record { session = session; buffers = buffers } }
         ensures held { result.held ≡ Some [] }
     {
         Listener {
             alloc,
-            talk: Talk { session, said },
+            talk: Talk { session, buffers },
             held: Held::new(alloc),
         }
     }
@@ -58,9 +58,9 @@ impl Listener {
         ensures on_trace { (base : SessionBase) (first : SessionTrace) (taken more : List ℕ) →
             IsSessionValueKnownIfNeeded (heard_input_loads_file ((taken ++ rest.old.now) ++ more)) base.files →
             IsTalkAtWholeLines base first taken self.old.held
-            (session_now_of self.old.talk.said self.old.talk.session (F.files files.old) steps.old) →
+            (session_now_of self.old.talk.buffers self.old.talk.session (F.files files.old) steps.old) →
             IsTalkFed result base first taken rest.old.now rest.new.now more self.new.held
-            (session_now_of self.new.talk.said self.new.talk.session (F.files files.new) steps.new) }
+            (session_now_of self.new.talk.buffers self.new.talk.session (F.files files.new) steps.new) }
         ensures faults { AreSessionFileFaultsCounted result
             (session_file_faults (F.faults files.old) (F.store_faults files.old))
             (session_file_faults (F.faults files.new) (F.store_faults files.new)) }
@@ -77,7 +77,7 @@ impl Listener {
                 Ok(true) => return Ok(true),
                 Err(fault) => return Err(fault),
             }
-            if self.talk.said.is_long() {
+            if self.talk.buffers.is_long() {
                 return Ok(false);
             }
         }
@@ -98,12 +98,12 @@ impl Listener {
         ensures on_trace { (base : SessionBase) (first : SessionTrace) (input : List ℕ) →
             IsSessionValueKnownIfNeeded (heard_input_loads_file input) base.files
             → IsTalkAtWholeLines base first input self.old.held
-            (session_now_of self.old.talk.said self.old.talk.session (F.files files.old) steps.old) →
+            (session_now_of self.old.talk.buffers self.old.talk.session (F.files files.old) steps.old) →
             MatchResult result
             (λ _. IsAtPointOfTalk base (talk_over_input first input)
-            (session_now_of self.new.talk.said self.new.talk.session (F.files files.new) steps.new))
+            (session_now_of self.new.talk.buffers self.new.talk.session (F.files files.new) steps.new))
             (λ fault. IsTalkBroken fault base first (heard_lines (input_lines input))
-            (session_now_of self.new.talk.said self.new.talk.session (F.files files.new) steps.new)) }
+            (session_now_of self.new.talk.buffers self.new.talk.session (F.files files.new) steps.new)) }
         ensures faults { AreSessionFileFaultsCounted result
             (session_file_faults (F.faults files.old) (F.store_faults files.old))
             (session_file_faults (F.faults files.new) (F.store_faults files.new)) }
@@ -130,14 +130,14 @@ impl Listener {
             ≡ readable_session_line part →
             IsSessionValueKnownIfNeeded (heard_line_loads_file (part ++ piece.now)) base.files
             → IsAtPointOfTalk base talk
-            (session_now_of self.old.talk.said self.old.talk.session (F.files files.old) steps.old) →
+            (session_now_of self.old.talk.buffers self.old.talk.session (F.files files.old) steps.old) →
             MatchResult result
             (λ done. (done ≡ is_last_session_line (part ++ piece.now)) × (self.new.held ≡ Some [])
             × IsAtPointOfTalk base (talk_with_answer talk (spec.session_line_answer talk.state (part ++ piece.now))
             (part ++ piece.now))
-            (session_now_of self.new.talk.said self.new.talk.session (F.files files.new) steps.new))
+            (session_now_of self.new.talk.buffers self.new.talk.session (F.files files.new) steps.new))
             (λ fault. IsTalkBroken fault base talk ((part ++ piece.now) ∷ [])
-            (session_now_of self.new.talk.said self.new.talk.session (F.files files.new) steps.new)) }
+            (session_now_of self.new.talk.buffers self.new.talk.session (F.files files.new) steps.new)) }
         ensures faults { AreSessionFileFaultsCounted result
             (session_file_faults (F.faults files.old) (F.store_faults files.old))
             (session_file_faults (F.faults files.new) (F.store_faults files.new)) }

@@ -51,7 +51,7 @@ impl Listener {
         files: &mut F,
         steps: &mut Steps<L>,
     ) -> SessionEnd
-        ensures run { spec.IsSessionRun self.old.talk.said self.old.talk.session result
+        ensures run { spec.IsSessionRun self.old.talk.buffers self.old.talk.session result
             (session_world (session_source (S.left src.old) (S.taken src.old) (S.faults src.old))
             (session_sink (O.written out.old) (O.faults out.old)) (session_sink (E.written err.old) (E.faults err.old))
             (session_files_seen (F.files files.old) (F.faults files.old) (F.store_faults files.old)) steps.old)
@@ -61,14 +61,14 @@ impl Listener {
         ensures unasked { (input : List ℕ) → S.left src.old ≡ Some input → HeardInputNamesNoFile input → files.new
             ≡ files.old }
         ensures opening { (src.new ≡ src.old)
-            ⊎ (SessionSinkGrowsAtLeast (O.written out.old) (O.written out.new) self.old.talk.said.out.items
-            × SessionSinkGrowsAtLeast (E.written err.old) (E.written err.new) self.old.talk.said.err.items) }
+            ⊎ (SessionSinkGrowsAtLeast (O.written out.old) (O.written out.new) self.old.talk.buffers.out.items
+            × SessionSinkGrowsAtLeast (E.written err.old) (E.written err.new) self.old.talk.buffers.err.items) }
         ensures order { (out.new ≡ out.old)
-            ⊎ SessionSinkGrowsAtLeast (E.written err.old) (E.written err.new) self.old.talk.said.err.items }
+            ⊎ SessionSinkGrowsAtLeast (E.written err.old) (E.written err.new) self.old.talk.buffers.err.items }
     {
         // The input begins with a new line.
         self.held.clear();
-        match self.talk.said.write(out, err) {
+        match self.talk.buffers.write(out, err) {
             Ok(()) => self.answer_blocks(src, out, err, files, steps),
             Err(_) => SessionEnd::WriteFault,
         }
@@ -141,9 +141,9 @@ impl Listener {
     {
         let mut rest = block;
         while !rest.is_empty() {
-            self.talk.said.clear();
+            self.talk.buffers.clear();
             let fed = self.feed_block(files, steps, &mut rest);
-            let Ok(()) = self.talk.said.write(out, err) else {
+            let Ok(()) = self.talk.buffers.write(out, err) else {
                 return Some(SessionEnd::WriteFault);
             };
             if let Some(end) = end_of(fed) {
@@ -172,9 +172,9 @@ impl Listener {
         ensures unasked { (input : List ℕ) → HoldsInputRest input self.old.held → HeardInputNamesNoFile input
             → files.new ≡ files.old }
     {
-        self.talk.said.clear();
+        self.talk.buffers.clear();
         let fed = self.feed_end(files, steps);
-        let Ok(()) = self.talk.said.write(out, err) else {
+        let Ok(()) = self.talk.buffers.write(out, err) else {
             return SessionEnd::WriteFault;
         };
         last_end(fed)

@@ -19,29 +19,29 @@ use units_io::{Failed, Sink, put_all};
 const LONG: usize = 65_536;
 
 /// The output for each sink that is not written yet.
-pub struct Said {
+pub struct OutputBuffers {
     pub out: Vec<u8>,
     pub err: Vec<u8>,
 }
 
-// Written by hand, so that code that drops what a session said need not prove anything about its contents.
-impl Drop for Said {
+// Written by hand, so that code that drops these buffers need not prove anything about them.
+impl Drop for OutputBuffers {
     fn drop(self) {
-        let Said { out: _, err: _ } = self;
+        let OutputBuffers { out: _, err: _ } = self;
     }
 }
 
-impl Said {
+impl OutputBuffers {
     /// Returns the output before the first line: the messages, the banner and the prompt, unless the session is quiet,
     /// and the notices of the definitions on `err`. The only error is running out of memory.
-    pub fn opening_output(alloc: Global, session: &Session) -> Result<Said, AllocError>
-        ensures out { IfOk result (λ said. said.out.items ≡ session_opening_text session.now) }
-        ensures err { IfOk result (λ said. said.err.items ≡ session_lines_of_texts session.now.table.deck.notices) }
+    pub fn opening_output(alloc: Global, session: &Session) -> Result<OutputBuffers, AllocError>
+        ensures out { IfOk result (λ buffers. buffers.out.items ≡ session_opening_text session.now) }
+        ensures err { IfOk result (λ buffers. buffers.err.items ≡ session_lines_of_texts session.now.table.deck.notices) }
     {
         let mut out = Vec::new(alloc);
         put_opening(alloc, &mut out, session)?;
         let err = notice_lines(alloc, session.table().deck())?;
-        Ok(Said { out, err })
+        Ok(OutputBuffers { out, err })
     }
 
     /// Discards the output.

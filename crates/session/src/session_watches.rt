@@ -63,7 +63,7 @@ impl Workspace {
         steps: &mut Steps<L>,
     ) -> Result<LineReply, SessionFault>
         requires parts { IsOneSession self.old }
-        ensures said { (m : FileMap) → IsSessionAnswerGiven
+        ensures answer { (m : FileMap) → IsSessionAnswerGiven
             (session_watch_answer (is_session_watch_list_full (map subject_of_watch self.old.watches))
             (watch_subject from.now to.now) (session_and_files (session_in self.old) m))
             result (session_in self.new) steps.old steps.new }

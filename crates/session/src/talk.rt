@@ -20,7 +20,7 @@ use crate::answer::LineReply;
 use crate::fault::SessionFault;
 use crate::lines::no_text;
 use crate::session::Session;
-use crate::session_output::Said;
+use crate::session_output::OutputBuffers;
 use std::alloc::{AllocError, Global};
 use std::sync::ledger::Ledger;
 use units_io::{Files, Steps, Text};
@@ -29,7 +29,7 @@ use units_io::{Files, Steps, Text};
 #[derive(Drop)]
 pub struct Talk {
     pub session: Session,
-    pub said: Said,
+    pub buffers: OutputBuffers,
 }
 
 impl Talk {
@@ -45,13 +45,13 @@ impl Talk {
         ensures on_trace { (base : SessionBase) (talk : SessionTrace) (part : List ℕ) → option_copied line.entry
             ≡ readable_session_line part →
             IsSessionValueKnownIfNeeded (heard_line_loads_file part) base.files → IsAtPointOfTalk base talk
-            (session_now_of self.old.said self.old.session (F.files files.old) steps.old) →
+            (session_now_of self.old.buffers self.old.session (F.files files.old) steps.old) →
             MatchResult result
             (λ done. (done ≡ is_last_session_line part)
             × IsAtPointOfTalk base (talk_with_answer talk (spec.session_line_answer talk.state part) part)
-            (session_now_of self.new.said self.new.session (F.files files.new) steps.new))
+            (session_now_of self.new.buffers self.new.session (F.files files.new) steps.new))
             (λ fault. IsTalkBroken fault base talk (part ∷ [])
-            (session_now_of self.new.said self.new.session (F.files files.new) steps.new)) }
+            (session_now_of self.new.buffers self.new.session (F.files files.new) steps.new)) }
         ensures faults { AreSessionFileFaultsCounted result
             (session_file_faults (F.faults files.old) (F.store_faults files.old))
             (session_file_faults (F.faults files.new) (F.store_faults files.new)) }
@@ -62,7 +62,7 @@ impl Talk {
             Ok(reply) => reply,
             Err(fault) => return Err(fault),
         };
-        match self.said.add(&self.session, &reply) {
+        match self.buffers.add(&self.session, &reply) {
             Ok(()) => Ok(reply.done),
             Err(_) => Err(SessionFault::OutOfMemory),
         }

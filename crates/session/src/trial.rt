@@ -8,7 +8,7 @@ ghost use Rattle.session.specs.Trials as spec;
 
 use crate::listener::Listener;
 use crate::session::Session;
-use crate::session_output::Said;
+use crate::session_output::OutputBuffers;
 use crate::table_counts::{put_count, statistics};
 use crate::talk::Talk;
 use crate::text_decks::text_deck;
@@ -40,7 +40,7 @@ pub fn run_trial<L: Ledger>(
     let session = quiet_session(alloc, deck, options);
     let lines = all_rounds(alloc, rounds)?;
     let talk = answer_lines(alloc, session, &lines, steps)?;
-    summary(alloc, rounds, talk.said.out.len(), talk.session.table())
+    summary(alloc, rounds, talk.buffers.out.len(), talk.session.table())
 }
 
 // Returns a session that says nothing but answers.
@@ -63,15 +63,15 @@ fn answer_lines<L: Ledger>(
     steps: &mut Steps<L>,
 ) -> Result<Talk, AllocError>
     ensures { IfOk result (λ talk.
-        IsTalkSpoken (talk_over_input (spec.silent_talk session) lines.now) talk.said talk.session steps.old
+        IsTalkSpoken (talk_over_input (spec.silent_talk session) lines.now) talk.buffers talk.session steps.old
         steps.new) }
 {
     let mut files = NoFiles::new();
-    let said = Said {
+    let buffers = OutputBuffers {
         out: Vec::new(alloc),
         err: Vec::new(alloc),
     };
-    let mut listener = Listener::new(alloc, session, said);
+    let mut listener = Listener::new(alloc, session, buffers);
     let mut rest = lines;
     while !rest.is_empty() {
         match listener.feed_block(&mut files, steps, &mut rest) {

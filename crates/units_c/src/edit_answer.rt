@@ -49,11 +49,11 @@ fn refusal(alloc: Global, fault: &DeckFault, named: &[u8]) -> Result<Answer, All
         }
         DeckFault::NoSuchKey => {
             let status = Status::NoSuchDefinition;
-            said_of(alloc, status, b"no such definition: ", named)
+            named_answer(alloc, status, b"no such definition: ", named)
         }
         DeckFault::DeckFull => text_answer(alloc, Status::DeckFull, b"deck full"),
-        DeckFault::Absent => said_of(alloc, Status::NoSuchFile, b"no file: ", named),
-        DeckFault::TooLong => said_of(alloc, Status::FileTooLong, b"file too long: ", named),
+        DeckFault::Absent => named_answer(alloc, Status::NoSuchFile, b"no file: ", named),
+        DeckFault::TooLong => named_answer(alloc, Status::FileTooLong, b"file too long: ", named),
         DeckFault::ReadFailed => text_answer(alloc, Status::ReadFailed, b""),
         DeckFault::OutOfMemory => Err(AllocError),
     }
@@ -117,7 +117,7 @@ pub(crate) fn answer_drop(
 {
     match read_key(alloc, text) {
         Ok(key) => answer_drop_of(alloc, content, &key, text),
-        Err(KeyFault::NotKey) => said_of(alloc, Status::BadKey, b"bad key: ", text),
+        Err(KeyFault::NotKey) => named_answer(alloc, Status::BadKey, b"bad key: ", text),
         Err(KeyFault::OutOfMemory) => Err(AllocError),
     }
 }
@@ -158,7 +158,12 @@ pub(crate) fn text_answer(alloc: Global, status: Status, words: &[u8]) -> Result
 }
 
 // Returns an answer with this status, whose text is `words` followed by `word`.
-fn said_of(alloc: Global, status: Status, words: &[u8], word: &[u8]) -> Result<Answer, AllocError>
+fn named_answer(
+    alloc: Global,
+    status: Status,
+    words: &[u8],
+    word: &[u8],
+) -> Result<Answer, AllocError>
     ensures { IfOk result (λ answer. answer ≡ record { status = status; text = words.now ++ word.now }) }
 {
     let mut text = Vec::from_slice(alloc, words)?;

@@ -13,7 +13,7 @@ use Rattle.reply.specs.declared.reply.Reply.{Reply}
 use Rattle.reply.specs.Options.{reply_style}
 use Rattle.session.specs.Lines.{session_lines_of_texts}
 use Rattle.session.specs.Queries.{LeavesSessionTableLaw, fresh_session_table, names_settled_in_session}
-use Rattle.session.specs.declared.session_output.Said.{Said}
+use Rattle.session.specs.declared.session_output.OutputBuffers.{OutputBuffers}
 use Rattle.survey.specs.ConversionReplies.{SurveyedReply}
 use Rattle.survey.specs.Checks.{check_report, check_queries}
 use Rattle.units_run.specs.CommandReply.{run_reply_for}
@@ -69,11 +69,11 @@ module _ (law : LeavesSessionTableLaw) (deck : DeckContents) (before after : Liv
       (subst (λ (s : LiveView). IsAfterLiveEvents es s after old new) is follows)).steps
 
   -- the plan of a reply
-  pub reply-planned : (asked : SurveyedReply) (reply : Reply) (said : Said) (status : Status)
-      → (reply ≡ asked.reply) × IsAfterLiveEvents asked.queries before after old new → said.out.items ≡ reply.text
-      → said.err.items ≡ session_lines_of_texts deck.notices → status ≡ (if reply.refused then Refused else Done)
-      → IsPlan (plan_of_reply deck asked) m (Whole said status) old new
-  reply-planned asked reply said status answer out err ends = record {
+  pub reply-planned : (asked : SurveyedReply) (reply : Reply) (buffers : OutputBuffers) (status : Status)
+      → (reply ≡ asked.reply) × IsAfterLiveEvents asked.queries before after old new → buffers.out.items ≡ reply.text
+      → buffers.err.items ≡ session_lines_of_texts deck.notices → status ≡ (if reply.refused then Refused else Done)
+      → IsPlan (plan_of_reply deck asked) m (Whole buffers status) old new
+  reply-planned asked reply buffers status answer out err ends = record {
     out = out ∙ ap (λ (r : Reply). r.text) answer.0;
     err = err;
     status_is = ends ∙ ap (λ (r : Reply). if r.refused then Refused else Done) answer.0;

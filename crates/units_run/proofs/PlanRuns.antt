@@ -21,7 +21,7 @@ use Rattle.session.specs.WrittenOutput.{IsAllSessionOutput, IsSessionEnded, IsSe
 use Rattle.session.specs.WrittenOutput.{output_of_session_course, session_course}
 use Rattle.session.specs.declared.over_source.SessionEnd.{SessionEnd}
 use Rattle.session.specs.declared.over_source.SessionEnd.TheVariants as end
-use Rattle.session.specs.declared.session_output.Said.{Said}
+use Rattle.session.specs.declared.session_output.OutputBuffers.{OutputBuffers}
 use Rattle.units_run.specs.Calls.{run_over}
 use Rattle.units_run.specs.Endings.{IsCleanRunEnd, IsPlanOutput, IsRunOutput, IsStatedRunEnd, IsWorkedRunEnd, RunMayEnd}
 use Rattle.units_run.specs.Endings.{run_status_of_session_end}
@@ -78,13 +78,14 @@ abbrev pub plan_end : plans.Plan → FileMap → (input : List ℕ) → Status
 plan_end want files input = (run_over want files input (heard_lines (input_lines input))).status
 
 -- the run of a whole plan that is written in full
-pub whole_run : (want : plans.Plan) (files : FileMap) (input : List ℕ) (said : Said) (status : Status)
-    (before after : SessionOutside) → IsStatedRunEnd status → IsPlan want files (Whole said status) before.steps
+pub whole_run : (want : plans.Plan) (files : FileMap) (input : List ℕ) (buffers : OutputBuffers) (status : Status)
+    (before after : SessionOutside) → IsStatedRunEnd status → IsPlan want files (Whole buffers status) before.steps
     after.steps
-    → after.out ≡ sink_bytes_append before.out said.out.items → after.err ≡ sink_bytes_append before.err said.err.items
+    → after.out ≡ sink_bytes_append before.out buffers.out.items
+    → after.err ≡ sink_bytes_append before.err buffers.err.items
     → after.files ≡ next_session_value_if_known before.files files
     → IsPlanOutput want (plan_course want files input) (plan_end want files input) status before after
-whole_run (plans.Whole run) files input said status before after stated planned out err kept =
+whole_run (plans.Whole run) files input buffers status before after stated planned out err kept =
     whole_run_output_is_written (plan_course (plans.Whole run) files input) run.status status before after stated
     planned.status_is
     (record {
@@ -93,26 +94,28 @@ whole_run (plans.Whole run) files input said status before after stated planned 
       files = kept;
       steps = planned.steps;
     })
-whole_run (plans.Opened talk) files input said status before after stated planned out err kept = absurd planned
-whole_run (plans.Columns work) files input said status before after stated planned out err kept = absurd planned
+whole_run (plans.Opened talk) files input buffers status before after stated planned out err kept = absurd planned
+whole_run (plans.Columns work) files input buffers status before after stated planned out err kept = absurd planned
 
 -- the plan of a session, which is opened
-pub planned_session_is_opened : (want : plans.Plan) (files : FileMap) (said : Said) (session : SessionState)
+pub planned_session_is_opened : (want : plans.Plan) (files : FileMap) (buffers : OutputBuffers) (session : SessionState)
     (before now : SessionOutside)
-    → IsPlan want files (Opened said session) before.steps now.steps → now.out ≡ before.out → now.err ≡ before.err
+    → IsPlan want files (Opened buffers session) before.steps now.steps → now.out ≡ before.out → now.err ≡ before.err
     → now.files ≡ before.files → before.files ≡ next_session_value_if_known before.files files
     → before.fetch_faults ≤ now.fetch_faults
     → before.store_faults ≤ now.store_faults → (first : SessionTrace) × (want ≡ plans.Opened first) × OpensSession first
-    said
+    buffers
     session
     before now
-planned_session_is_opened (plans.Whole run) files said session before now planned out err kept files_if_known faults
+planned_session_is_opened (plans.Whole run) files buffers session before now planned out err kept files_if_known faults
     stores =
     absurd planned
-planned_session_is_opened (plans.Columns work) files said session before now planned out err kept files_if_known faults
+planned_session_is_opened (plans.Columns work) files buffers session before now planned out err kept files_if_known
+    faults
     stores =
     absurd planned
-planned_session_is_opened (plans.Opened first) files said session before now planned out err kept files_if_known faults
+planned_session_is_opened (plans.Opened first) files buffers session before now planned out err kept files_if_known
+    faults
     stores = (
       first,
       refl,
@@ -210,12 +213,13 @@ unmade_run (plans.Columns work) files input before after sees o e kept =
     }
 
 -- the run of a whole plan that is written in part
-pub cut_run : (want : plans.Plan) (files : FileMap) (input : List ℕ) (said : Said) (status : Status)
-    (before after : SessionOutside) → IsPlan want files (Whole said status) before.steps after.steps
-    → SinkGrowsByPrefix before.out after.out said.out.items → SinkGrowsByPrefix before.err after.err said.err.items
+pub cut_run : (want : plans.Plan) (files : FileMap) (input : List ℕ) (buffers : OutputBuffers) (status : Status)
+    (before after : SessionOutside) → IsPlan want files (Whole buffers status) before.steps after.steps
+    → SinkGrowsByPrefix before.out after.out buffers.out.items
+    → SinkGrowsByPrefix before.err after.err buffers.err.items
     → after.files ≡ next_session_value_if_known before.files files
     → IsPlanOutput want (plan_course want files input) (plan_end want files input) WriteFault before after
-cut_run (plans.Whole run) files input said status before after planned out err kept = record {
+cut_run (plans.Whole run) files input buffers status before after planned out err kept = record {
   answered_lines = [];
   lines_left = heard_lines (input_lines input);
   lines_split = refl;
@@ -225,8 +229,8 @@ cut_run (plans.Whole run) files input said status before after planned out err k
   };
   files = (files, kept, inl refl);
 }
-cut_run (plans.Opened talk) files input said status before after planned out err kept = absurd planned
-cut_run (plans.Columns work) files input said status before after planned out err kept = absurd planned
+cut_run (plans.Opened talk) files input buffers status before after planned out err kept = absurd planned
+cut_run (plans.Columns work) files input buffers status before after planned out err kept = absurd planned
 
 -- a read fault is neither a write fault nor input that is too long
 pub run_read_fault_is_no_write_fault : ReadFault ≡ WriteFault → ⊥
@@ -300,12 +304,13 @@ stated_session_run_may_end file end.NoMemory s = absurd s
 stated_session_run_may_end file end.InputTooLong s = absurd s
 
 -- a whole plan opens no session and converts no column
-pub whole_plan_opens_no_session : (want : plans.Plan) (files : FileMap) (said : Said) (session : SessionState)
+pub whole_plan_opens_no_session : (want : plans.Plan) (files : FileMap) (buffers : OutputBuffers)
+    (session : SessionState)
     (old new : ℕ)
-    → plans.IsWholePlan want → IsPlan want files (Opened said session) old new → ⊥
-whole_plan_opens_no_session (plans.Whole run) files said session old new whole planned = planned
-whole_plan_opens_no_session (plans.Opened talk) files said session old new whole planned = whole
-whole_plan_opens_no_session (plans.Columns work) files said session old new whole planned = whole
+    → plans.IsWholePlan want → IsPlan want files (Opened buffers session) old new → ⊥
+whole_plan_opens_no_session (plans.Whole run) files buffers session old new whole planned = planned
+whole_plan_opens_no_session (plans.Opened talk) files buffers session old new whole planned = whole
+whole_plan_opens_no_session (plans.Columns work) files buffers session old new whole planned = whole
 
 pub whole_plan_converts_no_column : (want : plans.Plan) (files : FileMap) (plan : ColumnPlan) (old new : ℕ)
     → plans.IsWholePlan want → IsPlan want files (Columns plan) old new → ⊥
@@ -319,18 +324,18 @@ run_is_neither_of_both a b (inr x) = b x
 
 -- a session that was opened is not a run that opens none
 pub session_run_opens_a_session : (words : List (List ℕ)) (vars : NamedTexts) (files_if_known : Option FileMap)
-    (said : Said)
+    (buffers : OutputBuffers)
     (session : SessionState)
     (e : SessionEnd) (ending : Status) (old new : ℕ) → run_opens_session words ≡ true
     → run_status_of_session_end e ≡ ending
     → ((m : FileMap) → IsSessionValueIfKnown (run_needs_definitions words) files_if_known m
-    → IsPlan (plan_of words vars m) m (Opened said session) old new)
+    → IsPlan (plan_of words vars m) m (Opened buffers session) old new)
     → RunOpensNoSession words vars ending files_if_known → ⊥
-session_run_opens_a_session words vars files_if_known said session e ending old new opens is planned =
+session_run_opens_a_session words vars files_if_known buffers session e ending old new opens is planned =
     run_is_neither_of_both (λ (e : run_opens_session words ≡ false). both_ways (run_opens_session words) e opens)
     (run_is_neither_of_both (λ file. session_run_has_its_file e (is ∙ file))
     (λ whole.
-    whole_plan_opens_no_session (plan_of words vars whole.0) whole.0 said session old new whole.2
+    whole_plan_opens_no_session (plan_of words vars whole.0) whole.0 buffers session old new whole.2
     (planned whole.0 whole.1)))
 
 -- a run that reads no input opens no session
@@ -368,8 +373,8 @@ run_end_without_fault_is_clean NoMemory read write = tt
 run_end_without_fault_is_clean InputTooLong read write = tt
 
 -- a sink to which bytes were written has grown by at least those bytes
-pub run_sink_has_grown_by_its_bytes : (before after : Option (List ℕ)) (bytes said : List ℕ) → said ≡ bytes
-    → after ≡ sink_bytes_append before said
+pub run_sink_has_grown_by_its_bytes : (before after : Option (List ℕ)) (bytes buffers : List ℕ) → buffers ≡ bytes
+    → after ≡ sink_bytes_append before buffers
     → SessionSinkGrowsAtLeast before after bytes
-run_sink_has_grown_by_its_bytes before after bytes said is all =
+run_sink_has_grown_by_its_bytes before after bytes buffers is all =
     ([], all ∙ ap (sink_bytes_append before) (is ∙ sym (append-nil bytes)))

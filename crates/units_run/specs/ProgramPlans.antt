@@ -12,7 +12,7 @@ use Rattle.session.specs.Outside.{session_outside}
 use Rattle.session.specs.SessionProgress.{IsAtPointOfTalk}
 use Rattle.session.specs.KnownContents.{next_session_value_if_known}
 use Rattle.session.specs.BetweenPieces.{session_base_at_start}
-use Rattle.session.specs.declared.session_output.Said.{Said}
+use Rattle.session.specs.declared.session_output.OutputBuffers.{OutputBuffers}
 use Rattle.survey.specs.ConversionReplies.{SurveyedReply}
 use Rattle.units_run.specs.Calls.{column_run}
 use Rattle.units_run.specs.Checks.{planned_check_report, planned_check_steps}
@@ -27,10 +27,11 @@ use Rattle.units_run.specs.declared.status.Status.{Status}
 use Rattle.units_run.specs.declared.status.Status.TheVariants.{Done, Refused, NoFile}
 
 -- a whole run as output, with its steps taken
-pub record IsWholePlanOutput (want : plans.WholeRun) (said : Said) (status : Status) (steps_old steps_new : ℕ) : Type 0
+pub record IsWholePlanOutput (want : plans.WholeRun) (buffers : OutputBuffers) (status : Status)
+    (steps_old steps_new : ℕ) : Type 0
   where
-    pub out : said.out.items ≡ want.out
-    pub err : said.err.items ≡ want.err
+    pub out : buffers.out.items ≡ want.out
+    pub err : buffers.err.items ≡ want.err
     pub status_is : status ≡ want.status
     pub steps : steps_new ≡ steps_old + want.steps
 
@@ -55,12 +56,12 @@ pub record IsColumnPlan (want : plans.PlannedColumnWork) (plan : ColumnPlan) (st
 
 -- a plan of the program is this plan
 abbrev pub IsPlan : plans.Plan → FileMap → Plan → (steps_old steps_new : ℕ) → Type 0
-IsPlan (plans.Whole run) files (Whole said status) steps_old steps_new =
-    IsWholePlanOutput run said status steps_old steps_new
+IsPlan (plans.Whole run) files (Whole buffers status) steps_old steps_new =
+    IsWholePlanOutput run buffers status steps_old steps_new
 IsPlan (plans.Whole run) files (Check plan) steps_old steps_new = IsCheckPlan run plan steps_old steps_new
-IsPlan (plans.Opened talk) files (Opened said session) steps_old steps_new =
+IsPlan (plans.Opened talk) files (Opened buffers session) steps_old steps_new =
     IsAtPointOfTalk (session_base_at_start (Some files) steps_old) talk
-    (record { said_output = said; session = session; files = Some files; steps = steps_new })
+    (record { output_buffers = buffers; session = session; files = Some files; steps = steps_new })
 IsPlan (plans.Columns work) files (Columns plan) steps_old steps_new = IsColumnPlan work plan steps_old steps_new
 IsPlan want files plan steps_old steps_new = ⊥
 
@@ -72,11 +73,11 @@ IsPlanned want files (Err _) steps_old steps_new = ⊤
 -- column only because there is no deck; a check, if the words lead to neither; a session, if the words lead to one; and
 -- a column, if the words lead to one, with options that can be printed and a number from 1
 abbrev pub IsPossiblePlan : (taken file session column : Bool) → Plan → Type 0
-IsPossiblePlan taken file session column (Whole said status) =
+IsPossiblePlan taken file session column (Whole buffers status) =
     ((session || column) ≡ true → status ≡ NoFile) × RunMayEnd taken file session status
 IsPossiblePlan taken file session column (Check plan) =
     (taken ≡ true) × ((session || column) ≡ false) × AreReplyOptionsPrintable plan.options
-IsPossiblePlan taken file session column (Opened said opened) = (taken ≡ true) × (session ≡ true)
+IsPossiblePlan taken file session column (Opened buffers opened) = (taken ≡ true) × (session ≡ true)
 IsPossiblePlan taken file session column (Columns plan) =
     (taken ≡ true) × (column ≡ true) × AreReplyOptionsPrintable plan.task.options × (1 ≤ plan.task.column)
 

@@ -8,18 +8,18 @@ ghost use Rattle.units_run.specs.Plans as spec;
 use crate::check_plan::CheckPlan;
 use crate::column_plan::ColumnPlan;
 use crate::status::Status;
-use session::{Said, Session};
+use session::{OutputBuffers, Session};
 use std::alloc::{AllocError, Global};
 
 /// The plan that the words lead to before any input is read.
 #[derive(Drop)]
 pub(crate) enum Plan {
     /// All output of a run, and its status once that is written.
-    Whole(Said, Status),
+    Whole(OutputBuffers, Status),
     /// A check report to be written.
     Check(CheckPlan),
     /// A session, and the output before its first line.
-    Opened(Said, Session),
+    Opened(OutputBuffers, Session),
     /// A column of the input to be converted.
     Columns(ColumnPlan),
 }
@@ -31,10 +31,10 @@ impl Plan {
         ensures kind { (taken file session column : Bool) → ((session || column) ≡ true → status ≡ Status.NoFile) →
             RunMayEnd taken file session status → IfOk result (IsPossiblePlan taken file session column) }
     {
-        let said = Said {
+        let buffers = OutputBuffers {
             out: Vec::new(alloc),
             err: Vec::from_slice(alloc, text)?,
         };
-        Ok(Plan::Whole(said, status))
+        Ok(Plan::Whole(buffers, status))
     }
 }

@@ -77,13 +77,13 @@ pub fn units_main<S: Source, O: Sink, E: Sink, F: Files, L: Ledger>(
 {
     grant_law();
     match make_plan(alloc, words, vars, files, steps) {
-        Ok(Plan::Whole(said, status)) => match said.write(out, err) {
+        Ok(Plan::Whole(buffers, status)) => match buffers.write(out, err) {
             Ok(()) => status,
             Err(_) => Status::WriteFault,
         },
         Ok(Plan::Check(plan)) => write_check(alloc, plan, out, steps),
-        Ok(Plan::Opened(said, session)) => {
-            let mut listener = Listener::new(alloc, session, said);
+        Ok(Plan::Opened(buffers, session)) => {
+            let mut listener = Listener::new(alloc, session, buffers);
             let end = listener.answer_source(src, out, err, files, steps);
             mem::forget(listener);
             status_of(end)

@@ -22,7 +22,7 @@ use crate::status::Status;
 use crate::work::work;
 use command_line::{CommandLine, WordsFault, read_words, usage_text};
 use deck::Settings;
-use session::{Said, run_trial};
+use session::{OutputBuffers, run_trial};
 use std::alloc::{AllocError, Global};
 use std::sync::ledger::Ledger;
 use units_io::{Files, Steps, Text, Vars};
@@ -99,11 +99,11 @@ fn trial_plan<L: Ledger>(
     ensures kind { IfOk result (IsPossiblePlan true false false false) }
 {
     let text = run_trial(alloc, options_of(line), settings, rounds, steps)?;
-    let said = Said {
+    let buffers = OutputBuffers {
         out: text.into_bytes(),
         err: Vec::new(alloc),
     };
-    Ok(Plan::Whole(said, Status::Done))
+    Ok(Plan::Whole(buffers, Status::Done))
 }
 
 // Returns the plan of a command line over its definition file, or over the built-in text if it names none.

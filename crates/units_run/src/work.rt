@@ -21,7 +21,7 @@ use deck::Deck;
 use def_lines::line_content;
 use live_table::LiveTable;
 use reply::Question;
-use session::{Said, Session, leaves_law, notice_lines};
+use session::{OutputBuffers, Session, leaves_law, notice_lines};
 use std::alloc::{AllocError, Global};
 use std::mem;
 use std::sync::ledger::Ledger;
@@ -88,11 +88,11 @@ fn reply_plan<L: Ledger>(
     };
     let reply = ask(alloc, table, &question, steps)?;
     let status = reply_status(reply.refused);
-    let said = Said {
+    let buffers = OutputBuffers {
         out: reply.text.into_bytes(),
         err: notices,
     };
-    Ok(Plan::Whole(said, status))
+    Ok(Plan::Whole(buffers, status))
 }
 
 // Returns the plan of the conversion of a column from FROM.
@@ -148,8 +148,8 @@ fn session_plan(alloc: Global, line: &CommandLine, table: LiveTable) -> Result<P
     ensures kind { IfOk result (IsPossiblePlan true false true false) }
 {
     let session = Session::new(alloc, table, options_of(line));
-    let said = Said::opening_output(alloc, &session)?;
-    Ok(Plan::Opened(said, session))
+    let buffers = OutputBuffers::opening_output(alloc, &session)?;
+    Ok(Plan::Opened(buffers, session))
 }
 
 // Returns the contents of TO, which is blank if TO is not given.

@@ -14,7 +14,7 @@ loop-rest-init g c = (
   refl,
   subst (λ (t : Talk). IsTalkAtWholeLines (session_base_at_start (Some no_files_in_map) c.args.steps.now)
       (silent_talk c.args.session) []
-      c.new-listener.result.held (session_now_of t.said t.session (Some no_files_in_map) c.args.steps.now))
+      c.new-listener.result.held (session_now_of t.buffers t.session (Some no_files_in_map) c.args.steps.now))
       (sym c.new-listener.ensures.talk)
       (silent_talk_at_start c.args.session (record { out = c.new.result; err = c.new-2.result })
       c.new-listener.result.held

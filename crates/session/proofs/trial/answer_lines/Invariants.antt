@@ -10,7 +10,7 @@ invariant-loop-rest g l =
     (done : List ℕ) × (l.lines ≡ done ++ l.rest)
     × IsTalkAtWholeLines (session_base_at_start (Some no_files_in_map) l.initial.steps) (silent_talk l.fn.session) done
     l.listener.held
-    (session_now_of l.listener.talk.said l.listener.talk.session (Some no_files_in_map) l.steps)
+    (session_now_of l.listener.talk.buffers l.listener.talk.session (Some no_files_in_map) l.steps)
 
 abbrev pub decreases-loop-rest : goal.decreases-loop-rest
 decreases-loop-rest g l = length l.rest

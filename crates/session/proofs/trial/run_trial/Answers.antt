@@ -17,5 +17,5 @@ returns g c =
     c.answer_lines.new.steps
     (c.deref.ensures.value ∙ c.in_ok-text.ensures.is) c.in_ok-deck.ensures.is c.quiet_session-session.ensures
     (c.deref-2.ensures.value ∙ c.in_ok-lines.ensures) c.in_ok-talk.ensures
-    (omega (arith, c.len.ensures, c.in_ok-talk.talk.said.out.ok.0)) c.table.ensures is)
+    (omega (arith, c.len.ensures, c.in_ok-talk.talk.buffers.out.ok.0)) c.table.ensures is)
     c.summary.ensures

@@ -45,7 +45,7 @@ returns-in-Ok-clause-run g c =
     let stated = run_may_end_as_stated _ _ _ planned.status kind.1 in
     record {
       files_after = λ m input s q.
-          whole_run (plan_of c.args.words.now c.args.vars.now m) m input planned.said planned.status _ _ stated
+          whole_run (plan_of c.args.words.now c.args.vars.now m) m input planned.buffers planned.status _ _ stated
           (rw planned.field-0-is at
           (planned.ensures.if_known m (run_files_known_for_definitions c.args.words.now input _ m s)))
           c.in-Ok.ensures.whole.0 c.in-Ok.ensures.whole.1
@@ -115,7 +115,7 @@ returns-in-Ok-Opened-clause-run g c =
     let is = sym c.status_of.ensures in
     let opens : (RunOpensNoSession c.args.words.now c.args.vars.now c.status_of.result
     (g.F.Files.files c.args.files.now) → ⊥) =
-    session_run_opens_a_session _ _ _ opened.said opened.session c.answer_source-end.result _ _ _ kind.1 is
+    session_run_opens_a_session _ _ _ opened.buffers opened.session c.answer_source-end.result _ _ _ kind.1 is
     (λ m s. rw opened.field-0-is at (opened.ensures.if_known m s)) in
     let read : (c.status_of.result ≡ ReadFault → HasIoCountRisen (g.S.Source.faults c.args.src.now)
     (g.S.Source.faults c.answer_source-end.new.src)
@@ -147,7 +147,7 @@ returns-in-Ok-Opened-clause-run g c =
           (opened.ensures.if_known m (run_files_known_for_definitions c.args.words.now input _ m s))
           in
           let talk =
-          planned_session_is_opened want m opened.said opened.session before _ plan refl refl opened.ensures.kept
+          planned_session_is_opened want m opened.buffers opened.session before _ plan refl refl opened.ensures.kept
           (run_files_stay_known _ _ m s)
           (le_of_eq (sym opened.ensures.calm)) (le_of_eq (sym opened.ensures.stores)) in
           subst
@@ -227,7 +227,7 @@ returns-in-Ok-Opened-clause-source g c = λ none.
     let opened = c.in-Ok-Opened in
     let kind = rw opened.field-0-is at opened.ensures.kind in
     absurd
-    (session_run_opens_a_session c.args.words.now c.args.vars.now (g.F.Files.files c.args.files.now) opened.said
+    (session_run_opens_a_session c.args.words.now c.args.vars.now (g.F.Files.files c.args.files.now) opened.buffers
     opened.session
     c.answer_source-end.result c.status_of.result _ _ kind.1 (sym c.status_of.ensures)
     (λ m s. rw opened.field-0-is at (opened.ensures.if_known m s)) (run_without_input_opens_no_session _ _ _ _ none))
@@ -253,7 +253,7 @@ returns-in-Ok-Opened-clause-unread g c = λ none.
     let opened = c.in-Ok-Opened in
     let kind = rw opened.field-0-is at opened.ensures.kind in
     absurd
-    (session_run_opens_a_session c.args.words.now c.args.vars.now (g.F.Files.files c.args.files.now) opened.said
+    (session_run_opens_a_session c.args.words.now c.args.vars.now (g.F.Files.files c.args.files.now) opened.buffers
     opened.session
     c.answer_source-end.result c.status_of.result _ _ kind.1 (sym c.status_of.ensures)
     (λ m s. rw opened.field-0-is at (opened.ensures.if_known m s)) none)
@@ -296,7 +296,7 @@ pub returns-in-Ok-Whole-clause-run : goal.returns-in-Ok-Whole-clause-run
 returns-in-Ok-Whole-clause-run g c =
     let planned = c.in-Ok-Whole in record {
       files_after = λ m input s q.
-          cut_run (plan_of c.args.words.now c.args.vars.now m) m input planned.said planned.status _ _
+          cut_run (plan_of c.args.words.now c.args.vars.now m) m input planned.buffers planned.status _ _
           (rw planned.field-0-is at
           (planned.ensures.if_known m (run_files_known_for_definitions c.args.words.now input _ m s)))
           c.write.ensures.out c.write.ensures.err
@@ -348,13 +348,13 @@ returns-clause-granted g c =
 pub returns-in-Ok-clause-order : goal.returns-in-Ok-clause-order
 returns-in-Ok-clause-order g c = λ m s.
     let planned = c.in-Ok-Whole in
-    whole_plan_err_before_out (plan_of c.args.words.now c.args.vars.now m) m planned.said planned.status _ _ _ _
+    whole_plan_err_before_out (plan_of c.args.words.now c.args.vars.now m) m planned.buffers planned.status _ _ _ _
     (rw planned.field-0-is at (planned.ensures.if_known m s)) c.write.ensures.order
 
 pub returns-in-Ok-Whole-clause-order : goal.returns-in-Ok-Whole-clause-order
 returns-in-Ok-Whole-clause-order g c = λ m s.
     let planned = c.in-Ok-Whole in
-    whole_plan_err_before_out (plan_of c.args.words.now c.args.vars.now m) m planned.said planned.status _ _ _ _
+    whole_plan_err_before_out (plan_of c.args.words.now c.args.vars.now m) m planned.buffers planned.status _ _ _ _
     (rw planned.field-0-is at (planned.ensures.if_known m s)) c.write.ensures.order
 
 pub returns-in-Ok-Check-clause-order : goal.returns-in-Ok-Check-clause-order
@@ -367,14 +367,14 @@ returns-in-Ok-Check-clause-order g c = λ m s.
 pub returns-in-Ok-Opened-clause-order : goal.returns-in-Ok-Opened-clause-order
 returns-in-Ok-Opened-clause-order g c = λ m s.
     let opened = c.in-Ok-Opened in
-    session_plan_err_before_out (plan_of c.args.words.now c.args.vars.now m) m opened.said opened.session _ _ _ _
+    session_plan_err_before_out (plan_of c.args.words.now c.args.vars.now m) m opened.buffers opened.session _ _ _ _
     (rw opened.field-0-is at (opened.ensures.if_known m s))
     (rw c.new-listener.ensures.talk at c.answer_source-end.ensures.order)
 
 pub returns-in-Ok-Opened-clause-opened : goal.returns-in-Ok-Opened-clause-opened
 returns-in-Ok-Opened-clause-opened g c = λ m s.
     let opened = c.in-Ok-Opened in
-    session_plan_opening (plan_of c.args.words.now c.args.vars.now m) m opened.said opened.session _ _ _ _ _ _
+    session_plan_opening (plan_of c.args.words.now c.args.vars.now m) m opened.buffers opened.session _ _ _ _ _ _
     (rw opened.field-0-is at (opened.ensures.if_known m s))
     (rw c.new-listener.ensures.talk at c.answer_source-end.ensures.opening)
 

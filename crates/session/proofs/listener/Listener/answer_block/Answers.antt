@@ -35,7 +35,7 @@ returns-in_default-clause-run g c = λ was is. record {
       let s = stands first (taken ++ p.0) _ _ _ _ p.2 c.clear.new.self c.clear.ensures.out c.clear.ensures.err in
       part_written first taken c.args.block.now p.0 c.loop-rest.rest.now c.feed_block-fed.new.rest.now more p.1 _ _ _ _
       p.2
-      c.feed_block-fed.result _ c.feed_block-fed.new.self.talk.said _ _
+      c.feed_block-fed.result _ c.feed_block-fed.new.self.talk.buffers _ _
       (c.feed_block-fed.ensures.on_trace _ first (taken ++ p.0) more
       (equal_heard_input_loads_file _ _ start.files
       (session_feed_keeps_input taken c.args.block.now p.0 c.loop-rest.rest.now more p.1) t) s)
@@ -60,7 +60,7 @@ returns-in-Some-clause-run g c = λ was is. record {
       let s = stands first (taken ++ p.0) _ _ _ _ p.2 c.clear.new.self c.clear.ensures.out c.clear.ensures.err in
       ended_written first taken c.args.block.now p.0 c.loop-rest.rest.now c.feed_block-fed.new.rest.now more p.1 _ _ _ _
       p.2
-      c.feed_block-fed.result _ c.feed_block-fed.new.self.talk.said _ _
+      c.feed_block-fed.result _ c.feed_block-fed.new.self.talk.buffers _ _
       (c.feed_block-fed.ensures.on_trace _ first (taken ++ p.0) more
       (equal_heard_input_loads_file _ _ start.files
       (session_feed_keeps_input taken c.args.block.now p.0 c.loop-rest.rest.now more p.1) t) s)
@@ -115,7 +115,7 @@ loop-rest-preserved g c = record {
       let p = c.loop-rest.invariant.waits first taken more start was is t w in
       let s = stands first (taken ++ p.0) _ _ _ _ p.2 c.clear.new.self c.clear.ensures.out c.clear.ensures.err in
       waits_on first taken c.args.block.now p.0 c.loop-rest.rest.now c.feed_block-fed.new.rest.now more p.1 _ _ _ _ p.2
-      c.feed_block-fed.result _ c.feed_block-fed.new.self.talk.said _ _
+      c.feed_block-fed.result _ c.feed_block-fed.new.self.talk.buffers _ _
       (c.feed_block-fed.ensures.on_trace _ first (taken ++ p.0) more
       (equal_heard_input_loads_file _ _ start.files
       (session_feed_keeps_input taken c.args.block.now p.0 c.loop-rest.rest.now more p.1) t) s)

@@ -8,7 +8,7 @@ pub returns-in_default-clause-run : goal.returns-in_default-clause-run
 returns-in_default-clause-run g c = λ was is. record {
   run_if_known = λ first input start t fetches stores w.
       let s = stands first input _ _ _ _ w c.clear.new.self c.clear.ensures.out c.clear.ensures.err in
-      last_part first input _ _ _ _ w _ c.feed_end-fed.result c.feed_end-fed.new.self.talk.said _ _
+      last_part first input _ _ _ _ w _ c.feed_end-fed.result c.feed_end-fed.new.self.talk.buffers _ _
       (c.feed_end-fed.ensures.on_trace _ first input t s) c.write.ensures.out c.write.ensures.err
       (λ failed. session_count_rose_earlier _ _ _ stores (c.feed_end-fed.ensures.faults.failed_write_counted failed));
   has_cause = write_cause _ _ c.in_default.ensures.cause;
@@ -22,7 +22,7 @@ pub returns-clause-run : goal.returns-clause-run
 returns-clause-run g c = λ was is. record {
   run_if_known = λ first input start t fetches stores w.
       let s = stands first input _ _ _ _ w c.clear.new.self c.clear.ensures.out c.clear.ensures.err in
-      last_written first input _ _ _ _ w _ c.feed_end-fed.result c.feed_end-fed.new.self.talk.said _ _
+      last_written first input _ _ _ _ w _ c.feed_end-fed.result c.feed_end-fed.new.self.talk.buffers _ _
       (c.feed_end-fed.ensures.on_trace _ first input t s) c.last_end.result c.last_end.ensures
       c.in-Ok.ensures.whole.0 c.in-Ok.ensures.whole.1
       (λ failed. session_count_rose_earlier _ _ _ fetches (c.feed_end-fed.ensures.faults.cause failed))

@@ -22,7 +22,7 @@ pub returns-in-Err-clause-opening : goal.returns-in-Err-clause-opening
 returns-in-Err-clause-opening g c = inl refl
 
 pub returns-in-Err-clause-order : goal.returns-in-Err-clause-order
-returns-in-Err-clause-order g c = session_sinks_grow_in_order _ _ _ c.args.self.now.talk.said.err.items
+returns-in-Err-clause-order g c = session_sinks_grow_in_order _ _ _ c.args.self.now.talk.buffers.err.items
     c.write.ensures.order
 
 pub returns-in-Ok-clause-run : goal.returns-in-Ok-clause-run
@@ -53,16 +53,16 @@ returns-in-Ok-clause-unasked g c = λ input q none.
 
 pub returns-in-Ok-clause-opening : goal.returns-in-Ok-clause-opening
 returns-in-Ok-clause-opening g c = inr (
-  session_sink_grows_by_more _ _ _ c.args.self.now.talk.said.out.items
+  session_sink_grows_by_more _ _ _ c.args.self.now.talk.buffers.out.items
       (session_sink_grows_by_all _ _ _ c.in-Ok.ensures.whole.0)
       c.answer_blocks.ensures.run.grows.out,
-  session_sink_grows_by_more _ _ _ c.args.self.now.talk.said.err.items
+  session_sink_grows_by_more _ _ _ c.args.self.now.talk.buffers.err.items
       (session_sink_grows_by_all _ _ _ c.in-Ok.ensures.whole.1)
       c.answer_blocks.ensures.run.grows.err,
 )
 
 pub returns-in-Ok-clause-order : goal.returns-in-Ok-clause-order
 returns-in-Ok-clause-order g c =
-    inr (session_sink_grows_by_more _ _ _ c.args.self.now.talk.said.err.items
+    inr (session_sink_grows_by_more _ _ _ c.args.self.now.talk.buffers.err.items
     (session_sink_grows_by_all _ _ _ c.in-Ok.ensures.whole.1)
     c.answer_blocks.ensures.run.grows.err)

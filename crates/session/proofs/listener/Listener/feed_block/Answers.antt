@@ -19,11 +19,11 @@ returns-in-Ok-true-clause-on_trace g c = λ base first taken more t s.
     (talk_holds_input_rest base first _ _ _ p.2)
     c.in-Some.piece.now c.in-Some.behind.now (sym c.in-Some.ensures) more base.files t) p.2.is_at in
     line_over base first taken c.args.rest.now.now p.0 c.loop-piece.rest.now c.loop-piece.self.held
-    (session_now_of c.loop-piece.self.talk.said c.loop-piece.self.talk.session (g.F.Files.files c.loop-piece.files)
+    (session_now_of c.loop-piece.self.talk.buffers c.loop-piece.self.talk.session (g.F.Files.files c.loop-piece.files)
     c.loop-piece.steps) p.1 p.2
     c.in-Some.piece.now
     c.in-Some.behind.now (sym c.in-Some.ensures) more
-    (session_now_of c.end_line.new.self.talk.said c.end_line.new.self.talk.session
+    (session_now_of c.end_line.new.self.talk.buffers c.end_line.new.self.talk.session
     (g.F.Files.files c.end_line.new.files) c.end_line.new.steps)
     (sym c.in-Ok-true.field-0-test ∙ on_trace.0) on_trace.2
 
@@ -31,11 +31,11 @@ pub returns-in-Err-clause-on_trace : goal.returns-in-Err-clause-on_trace
 returns-in-Err-clause-on_trace g c = λ base first taken more t s.
     let p = c.loop-piece.invariant.fed base first taken more t s in
     line_lost base first taken c.args.rest.now.now p.0 c.loop-piece.rest.now c.loop-piece.self.held
-    (session_now_of c.loop-piece.self.talk.said c.loop-piece.self.talk.session (g.F.Files.files c.loop-piece.files)
+    (session_now_of c.loop-piece.self.talk.buffers c.loop-piece.self.talk.session (g.F.Files.files c.loop-piece.files)
     c.loop-piece.steps) p.1 p.2
     c.in-Some.piece.now
     c.in-Some.behind.now (sym c.in-Some.ensures) c.in-Err.fault more
-    (session_now_of c.end_line.new.self.talk.said c.end_line.new.self.talk.session
+    (session_now_of c.end_line.new.self.talk.buffers c.end_line.new.self.talk.session
     (g.F.Files.files c.end_line.new.files) c.end_line.new.steps)
     (c.in-Err.ensures.on_trace base (talk_over_lines first (whole_input_lines (taken ++ p.0)))
     (unfinished_input_line (taken ++ p.0))
@@ -53,11 +53,11 @@ returns-then-is_long-clause-on_trace g c = λ base first taken more t s.
     (talk_holds_input_rest base first _ _ _ p.2)
     c.in-Some.piece.now c.in-Some.behind.now (sym c.in-Some.ensures) more base.files t) p.2.is_at in
     line_fed base first taken c.args.rest.now.now p.0 c.loop-piece.rest.now c.loop-piece.self.held
-    (session_now_of c.loop-piece.self.talk.said c.loop-piece.self.talk.session (g.F.Files.files c.loop-piece.files)
+    (session_now_of c.loop-piece.self.talk.buffers c.loop-piece.self.talk.session (g.F.Files.files c.loop-piece.files)
     c.loop-piece.steps) p.1 p.2
     c.in-Some.piece.now
     c.in-Some.behind.now (sym c.in-Some.ensures) c.end_line.new.self.held
-    (session_now_of c.end_line.new.self.talk.said c.end_line.new.self.talk.session
+    (session_now_of c.end_line.new.self.talk.buffers c.end_line.new.self.talk.session
     (g.F.Files.files c.end_line.new.files) c.end_line.new.steps)
     (sym c.in-Ok-false.field-0-test ∙ on_trace.0) on_trace.1 on_trace.2
 
@@ -90,11 +90,11 @@ loop-piece-preserved g c = record {
       (talk_holds_input_rest base first _ _ _ p.2)
       c.in-Some.piece.now c.in-Some.behind.now (sym c.in-Some.ensures) more base.files t) p.2.is_at in
       line_fed base first taken c.args.rest.now.now p.0 c.loop-piece.rest.now c.loop-piece.self.held
-      (session_now_of c.loop-piece.self.talk.said c.loop-piece.self.talk.session (g.F.Files.files c.loop-piece.files)
+      (session_now_of c.loop-piece.self.talk.buffers c.loop-piece.self.talk.session (g.F.Files.files c.loop-piece.files)
       c.loop-piece.steps) p.1 p.2
       c.in-Some.piece.now
       c.in-Some.behind.now (sym c.in-Some.ensures) c.end_line.new.self.held
-      (session_now_of c.end_line.new.self.talk.said c.end_line.new.self.talk.session
+      (session_now_of c.end_line.new.self.talk.buffers c.end_line.new.self.talk.session
       (g.F.Files.files c.end_line.new.files) c.end_line.new.steps)
       (sym c.in-Ok-false.field-0-test ∙ on_trace.0) on_trace.1 on_trace.2;
 }
@@ -105,7 +105,7 @@ returns-in-Ok-clause-on_trace g c = λ base first taken more t s.
       c.args.rest.now.now,
       sym (append-nil c.args.rest.now.now),
       rest_held base first taken c.args.rest.now.now p.0 c.loop-piece.rest.now c.loop-piece.self.held
-          (session_now_of c.loop-piece.self.talk.said c.loop-piece.self.talk.session
+          (session_now_of c.loop-piece.self.talk.buffers c.loop-piece.self.talk.session
           (g.F.Files.files c.loop-piece.files) c.loop-piece.steps) p.1
           p.2
           (sym c.cut_at.ensures ∙ ap (option_map seen_entry_text_pair) c.in_default.is) c.add.new.self
@@ -116,7 +116,7 @@ pub returns-in-Err-add-clause-on_trace : goal.returns-in-Err-add-clause-on_trace
 returns-in-Err-add-clause-on_trace g c = λ base first taken more t s.
     let p = c.loop-piece.invariant.fed base first taken more t s in
     rest_lost base first taken c.args.rest.now.now p.0 c.loop-piece.rest.now c.loop-piece.self.held
-    (session_now_of c.loop-piece.self.talk.said c.loop-piece.self.talk.session (g.F.Files.files c.loop-piece.files)
+    (session_now_of c.loop-piece.self.talk.buffers c.loop-piece.self.talk.session (g.F.Files.files c.loop-piece.files)
     c.loop-piece.steps) p.1 p.2
     OutOfMemory more
 

@@ -17,11 +17,11 @@ invariant-loop-piece g l = record {
   fed : (base : SessionBase) (first : SessionTrace) (taken more : List ℕ) →
       IsSessionValueKnownIfNeeded (heard_input_loads_file ((taken ++ l.initial.rest.now) ++ more)) base.files →
       IsTalkAtWholeLines base first taken l.initial.self.held
-      (session_now_of l.initial.self.talk.said l.initial.self.talk.session (g.F.Files.files l.initial.files)
+      (session_now_of l.initial.self.talk.buffers l.initial.self.talk.session (g.F.Files.files l.initial.files)
       l.initial.steps)
       → (done : List ℕ) × (l.initial.rest.now ≡ done ++ l.rest.now) × IsTalkAtWholeLines base first
       (taken ++ done) l.self.held
-      (session_now_of l.self.talk.said l.self.talk.session (g.F.Files.files l.files) l.steps);
+      (session_now_of l.self.talk.buffers l.self.talk.session (g.F.Files.files l.files) l.steps);
 }
 
 abbrev pub decreases-loop-piece : goal.decreases-loop-piece

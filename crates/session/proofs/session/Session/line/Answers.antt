@@ -32,7 +32,7 @@ returns-in-Load-clause-answer g c = λ m h.
     c.args.steps.now
     c.load.new.steps)
     (c.in-Load.ensures {u = tt})
-    (c.load.ensures.said m
+    (c.load.ensures.answer m
     (needed_session_files_are_known _ _ m (sym (ap is_session_load (c.in-Load.ensures {u = tt}))) h))))
 
 pub returns-in-Save-clause-answer : goal.returns-in-Save-clause-answer
@@ -72,7 +72,7 @@ returns-in_default-clause-answer g c = λ m h.
     (subst (λ (a : Command). IsSessionAnswerGiven (session_answer_to (session_and_files before m) a) c.perform.result
     now c.args.steps.now
     c.perform.new.steps)
-    c.read_command.ensures (c.perform.ensures.said m)))
+    c.read_command.ensures (c.perform.ensures.answer m)))
 
 pub returns-in_default-clause-done : goal.returns-in_default-clause-done
 returns-in_default-clause-done g c =

@@ -9,15 +9,15 @@ use Rattle.session.proofs.QueryReplies.{pending_conversion_is_answered, session_
 use Rattle.session.proofs.workspace.Workspace.answer_expression.Goals as goal
 use Rattle.watch.specs.WatchViews.{subject_of_watch}
 
-pub returns-in_default-clause-said : goal.returns-in_default-clause-said
-returns-in_default-clause-said g c = λ m.
+pub returns-in_default-clause-answer : goal.returns-in_default-clause-answer
+returns-in_default-clause-answer g c = λ m.
     subst (λ (p : Option (List ℕ)). IsSessionAnswerGiven
     (session_expression_answer p c.args.text.now (session_and_files (session_in c.args.self.now) m))
     c.take_from.result (session_in c.take_from.new.self) c.args.steps.now c.take_from.new.steps)
-    (c.in_default.ensures {u = tt}).value (c.take_from.ensures.said m)
+    (c.in_default.ensures {u = tt}).value (c.take_from.ensures.answer m)
 
-pub returns-clause-said : goal.returns-clause-said
-returns-clause-said g c = λ m.
+pub returns-clause-answer : goal.returns-clause-answer
+returns-clause-answer g c = λ m.
     let old = c.args.self.now in
     let asked =
     asked_conversion (table_of_deck old.table.deck) old.options c.as_bytes-from.result.now c.args.text.now in

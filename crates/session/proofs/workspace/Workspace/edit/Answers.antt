@@ -7,8 +7,8 @@ use Rattle.session.proofs.WatchReports.{made_answered, session_reports_edit_made
 use Rattle.session.proofs.workspace.Workspace.edit.Goals as goal
 use Rattle.watch.specs.WatchViews.{subject_of_watch}
 
-pub returns-in_ok-report-in-Made-clause-said : goal.returns-in_ok-report-in-Made-clause-said
-returns-in_ok-report-in-Made-clause-said g c = λ m.
+pub returns-in_ok-report-in-Made-clause-answer : goal.returns-in_ok-report-in-Made-clause-answer
+returns-in_ok-report-in-Made-clause-answer g c = λ m.
     let old = c.args.self.now in
     let was = session_table_with_versions old.table old.history in
     let report = c.in_ok-report-in-Made.ensures {u = tt} in

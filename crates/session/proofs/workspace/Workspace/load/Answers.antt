@@ -13,9 +13,9 @@ use Rattle.session.proofs.WatchReports.{made_answered, refused_answered}
 use Rattle.session.proofs.workspace.Workspace.load.Goals as goal
 use Rattle.watch.specs.WatchViews.{subject_of_watch}
 
-pub returns-in_ok-notices-in-Ok-clause-said : goal.returns-in_ok-notices-in-Ok-clause-said
+pub returns-in_ok-notices-in-Ok-clause-answer : goal.returns-in_ok-notices-in-Ok-clause-answer
 unfolding session_answer_to
-returns-in_ok-notices-in-Ok-clause-said g c = λ m files.
+returns-in_ok-notices-in-Ok-clause-answer g c = λ m files.
     let old = c.args.self.now in
     let was = session_table_with_versions old.table old.history in
     let outcome = deck_after_appending m c.args.name.now old.table.deck in
@@ -35,9 +35,9 @@ returns-in_ok-notices-in-Ok-clause-said g c = λ m files.
     ∙ ap (λ (d : DeckContents). session_lines_of_texts d.notices) (c.deck.ensures.deck ∙ c.report_changes.ensures.deck)
     ∙ ap notice_lines (sym made))
 
-pub returns-in_ok-refusal_line-in-Err-clause-said : goal.returns-in_ok-refusal_line-in-Err-clause-said
+pub returns-in_ok-refusal_line-in-Err-clause-answer : goal.returns-in_ok-refusal_line-in-Err-clause-answer
 unfolding session_answer_to
-returns-in_ok-refusal_line-in-Err-clause-said g c = λ m files.
+returns-in_ok-refusal_line-in-Err-clause-answer g c = λ m files.
     let old = c.args.self.now in
     let was = session_table_with_versions old.table old.history in
     let outcome = deck_after_appending m c.args.name.now old.table.deck in

@@ -14,8 +14,8 @@ use Rattle.watch.specs.WatchViews.{subject_of_watch, watch_subject}
 use Rattle.watch.specs.declared.fault.WatchFault.TheVariants.{TooMany}
 use Rattle.general_lemmas.proofs.Results.{err-ok}
 
-pub returns-in-Ok-clause-said : goal.returns-in-Ok-clause-said
-returns-in-Ok-clause-said g c = λ m.
+pub returns-in-Ok-clause-answer : goal.returns-in-Ok-clause-answer
+returns-in-Ok-clause-answer g c = λ m.
     let old = c.args.self.now in
     let added = c.in-Ok.ensures {u = tt} in
     let subject = watch_subject c.args.from.now c.args.to.now in
