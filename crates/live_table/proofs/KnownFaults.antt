@@ -146,14 +146,15 @@ module _ (t : EntryTable) (l : NodeLists) (before list : List ℕ) (ends : List 
 
   step_known : (n m : ℕ) → IsKnownToExploration l before list n → GraphLeadsTo l.graph n m
       → IsKnownToExploration l before list m
-  step_known n m (inl e) lead = inl ((nodes.net.settled_right n e).1 m lead)
-  step_known n m (inr (inl i)) lead = wider m ((all.earlier_explored.explored_have_steps n i).steps.targets m lead)
-  step_known n m (inr (inr i)) lead = (all.listed_have_steps n i).steps.targets m lead
+  step_known n m (inl e) destination = inl ((nodes.net.settled_right n e).1 m destination)
+  step_known n m (inr (inl i)) destination = wider m ((all.earlier_explored.explored_have_steps n i).steps.targets
+      m destination)
+  step_known n m (inr (inr i)) destination = (all.listed_have_steps n i).steps.targets m destination
 
   below_known : (n m : ℕ) → IsKnownToExploration l before list n → GraphReaches l.graph n m
       → IsKnownToExploration l before list m
-  below_known n m k (at_once lead) = step_known n m k lead
-  below_known n m k (further lead r) = below_known _ m (step_known n _ k lead) r
+  below_known n m k (at_once destination) = step_known n m k destination
+  below_known n m k (further destination r) = below_known _ m (step_known n _ k destination) r
 
   pub reached_known : (query : List Step) → LeadToKnownNumbers (is_known_to_exploration l.settled_flags before list)
       query → (n : ℕ)

@@ -27,8 +27,8 @@ pub mod KeptLists
 pub mod KeptNames
 pub mod KeyNumbers
 pub mod KnownFaults
-pub mod LeadSteps
-pub mod LeadTargets
+pub mod DestinationSteps
+pub mod DestinationTargets
 pub mod OutcomesRemoved
 pub mod LinkedNames
 pub mod LookedKeys

@@ -28,7 +28,7 @@ use Rattle.live_table.specs.Sound.{HasCachedLooks, IsSoundLiveTable}
 use Rattle.live_table.specs.TableContents.{NodeLists, NodeLooks, node_key_at, node_look_numbers, node_looks_of}
 use Rattle.live_table.proofs.AfterForgetting.{settled_node_is_flagged}
 use Rattle.live_table.proofs.OutcomesByKey.{key_settled, settled_within}
-use Rattle.live_table.proofs.WaitingNames.{closed_lead_has_node_number, dead_end, linked_name_is_settled}
+use Rattle.live_table.proofs.WaitingNames.{closed_destination_has_node_number, dead_end, linked_name_is_settled}
 use Rattle.live_table.proofs.WaitingNames.{settled_name_not_waiting_is_linked, unfound_settled_is_not_waiting}
 use Rattle.general_lemmas.proofs.Members.{member_first, member_later, member_cases}
 
@@ -113,10 +113,11 @@ module _ (law : AddedEdgesLaw) (deck : DeckContents) (l : NodeLists) (r n : ℕ)
       ((m : ℕ) × Contains used m × (k ≡ node_key_at l.keys m))
   its_used k = (
     λ w.
-        let s = closed_lead_has_node_number deck l n closed (sound.numbers.faithful n settled) k w in
+        let s = closed_destination_has_node_number deck l n closed (sound.numbers.faithful n settled) k w in
         (s.0, (used_is s.0).1 s.2, s.1),
     λ u. subst (λ (x : Key). TableWordsLeadTo (table_of_deck deck) the_words x) (sym u.2)
-        (lead_of_step (table_of_deck deck) (node_key_at l.keys) dead_end the_words (graph_steps l.graph n) words u.0
+        (lead_of_step (table_of_deck deck) (node_key_at l.keys) dead_end the_words
+        (graph_steps l.graph n) words u.0
         ((used_is u.0).0 u.1)),
   )
 
@@ -168,7 +169,8 @@ module _ (law : AddedEdgesLaw) (deck : DeckContents) (l : NodeLists) (r n : ℕ)
       settled_name_not_waiting_is_linked l.settled_flags (n ∷ rest) m
       (settled_node_is_flagged l.settled_flags m (below m way))
       (λ i. edges.targets_first.0 m i
-      (lead_of_step (table_of_deck deck) (node_key_at l.keys) dead_end the_words (graph_steps l.graph n) words m way))
+      (lead_of_step (table_of_deck deck) (node_key_at l.keys) dead_end the_words
+      (graph_steps l.graph n) words m way))
 
   -- the first waiting name has its edges, and the others still wait
   pub linked_edges : HasLateSettledEdges deck l rest h

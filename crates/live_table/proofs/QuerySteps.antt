@@ -8,16 +8,17 @@ use Rattle.expr_tree.specs.declared.word_list.WordUse.{WordUse}
 use Rattle.def_entry.specs.Tables.{EntryTable}
 use Rattle.name_walk.specs.declared.step.Step.{Step}
 use Rattle.live_table.specs.declared.dead_end.DeadEnd.{DeadEnd}
-use Rattle.live_table.specs.declared.word_targets.Lead.{Lead}
-use Rattle.live_table.specs.declared.word_targets.Lead.TheVariants.{Refused, Nowhere, One, Two}
+use Rattle.live_table.specs.declared.word_targets.Destination.{Destination}
+use Rattle.live_table.specs.declared.word_targets.Destination.TheVariants.{Refused, Nowhere, One, Two}
 use Rattle.live_table.specs.declared.word_steps.WordSteps.{WordSteps}
 use Rattle.live_table.specs.Exploration.{AreExplorationSteps, AreNodesAdded, IsExplorationAgenda, IsKnownToExploration}
-use Rattle.live_table.specs.WordTargets.{IsLiveQueryLead, is_refused_node_lead, lead_node_numbers, node_steps_of_lead}
+use Rattle.live_table.specs.WordTargets.{IsLiveQueryDestination, destination_node_numbers}
+use Rattle.live_table.specs.WordTargets.{is_refused_node_destination, node_steps_of_destination}
 use Rattle.live_table.specs.QueryWords.{AreExplorationStepsCutAt, IsExplorationDeadEnd}
 use Rattle.live_table.specs.Sound.{AreSoundNodes}
 use Rattle.live_table.specs.TableContents.{NodeLists}
 use Rattle.live_table.proofs.AddedNames.{nodes_are_growth_of_themselves, two_node_additions_are_one, written_more}
-use Rattle.live_table.proofs.LeadSteps.{steps_written}
+use Rattle.live_table.proofs.DestinationSteps.{steps_written}
 use Rattle.live_table.proofs.WrittenSteps.{exploration_steps_after_others}
 use Rattle.general_lemmas.proofs.Places.{take_at}
 
@@ -51,26 +52,28 @@ module _ (t : EntryTable) (old now m : NodeLists) (before here list there : List
       written_more t now m before list there [] [] (turn.start.added []).growth.nodes
       (turn.start.added []).growth.list_right (then []).growth (take i us) xs turn.start.written
 
-  module _ (lead : Lead) (is : IsLiveQueryLead t m.keys u lead) where
+  module _ (destination : Destination) (is : IsLiveQueryDestination t m.keys u destination) where
     -- the steps of the word are appended
-    pub stepping_next : ((n : ℕ) → Contains (lead_node_numbers lead) n → IsKnownToExploration m before there n)
+    pub stepping_next : ((n : ℕ) → Contains (destination_node_numbers destination) n
+        → IsKnownToExploration m before there n)
         → (w : WordSteps)
-        → Some w ≡ node_steps_of_lead lead → (ys zs : List Step) → ys ≡ xs ++ w.first ∷ [] → zs ≡ ys ++ w.second ∷ []
+        → Some w ≡ node_steps_of_destination destination → (ys zs : List Step) → ys ≡ xs ++ w.first ∷ []
+        → zs ≡ ys ++ w.second ∷ []
         → IsStepping t old m before here there us zs (i + 1)
     stepping_next known w e ys zs a b = record {
       added = stepped_added;
       written = subst (λ (p : List WordUse × List Step). AreExplorationSteps t m before there [] p.0 p.1)
           (λ j. (sym (take_at us i u turn.word) j, sym all j))
           (exploration_steps_after_others t m before there [] (take i us) (u ∷ []) xs (w.first ∷ w.second ∷ []) front
-          (steps_written t m before there [] u lead w is known e));
+          (steps_written t m before there [] u destination w is known e));
     }
       where
         all : zs ≡ xs ++ w.first ∷ w.second ∷ []
         all = b ∙ (ap (λ (qs : List Step). qs ++ w.second ∷ []) a ∙ append_assoc xs (w.first ∷ []) (w.second ∷ []))
 
     -- or the word leads nowhere
-    pub stepping_cut : None ≡ node_steps_of_lead lead → (end : DeadEnd)
-        → end ≡ record { text = u.text; is_refused = is_refused_node_lead lead }
+    pub stepping_cut : None ≡ node_steps_of_destination destination → (end : DeadEnd)
+        → end ≡ record { text = u.text; is_refused = is_refused_node_destination destination }
         → AreExplorationStepsCutAt t m before there us xs end
     stepping_cut none end e = record {
       words_before = take i us;
@@ -78,7 +81,7 @@ module _ (t : EntryTable) (old now m : NodeLists) (before here list there : List
       words_after = drop (suc i) us;
       words = parts us i turn.word;
       front_steps = front;
-      dead_end_word = dead lead is none e;
+      dead_end_word = dead destination is none e;
     }
       where
         parts : (vs : List WordUse) (j : ℕ) → slice_get vs j ≡ Some u → vs ≡ take j vs ++ u ∷ drop (suc j) vs
@@ -86,8 +89,8 @@ module _ (t : EntryTable) (old now m : NodeLists) (before here list there : List
         parts (v ∷ vs) zero q = let f : v ≡ u = cc in ap (λ (x : WordUse). x ∷ vs) f
         parts (v ∷ vs) (suc j) q = ap (λ (ws : List WordUse). v ∷ ws) (parts vs j q)
 
-        dead : (x : Lead) → IsLiveQueryLead t m.keys u x → None ≡ node_steps_of_lead x
-            → end ≡ record { text = u.text; is_refused = is_refused_node_lead x } → IsExplorationDeadEnd t u end
+        dead : (x : Destination) → IsLiveQueryDestination t m.keys u x → None ≡ node_steps_of_destination x
+            → end ≡ record { text = u.text; is_refused = is_refused_node_destination x } → IsExplorationDeadEnd t u end
         dead Refused h n q = record {
           text = ap (λ (d : DeadEnd). d.text) q;
           refused_word = ap (λ (d : DeadEnd). d.is_refused) q ∙ sym h;

@@ -17,11 +17,11 @@ use Rattle.name_lookup.specs.Targets.{AreLookupTargetsFound, last_lookup_keys, l
 use Rattle.name_walk.specs.Faults.{is_on_path}
 use Rattle.table_names.specs.Leads.{TableNameLookupLaw, table_word_looked_keys, table_word_lookup, table_word_targets}
 use Rattle.name_numbers.proofs.NewKeys.{key_of_numbered_name_is_member, numbered_name_of_key_member}
-use Rattle.live_table.specs.declared.word_targets.Lead.{Lead}
-use Rattle.live_table.specs.declared.word_targets.Lead.TheVariants.{Refused, Nowhere, One, Two}
+use Rattle.live_table.specs.declared.word_targets.Destination.{Destination}
+use Rattle.live_table.specs.declared.word_targets.Destination.TheVariants.{Refused, Nowhere, One, Two}
 use Rattle.live_table.specs.declared.dead_end.DeadEnd.{DeadEnd}
 use Rattle.live_table.specs.Exploration.{AreNodesAdded, AreNodesGrown, IsExplorationAgenda, IsExplorationGrowth}
-use Rattle.live_table.specs.WordTargets.{AreNodeNumbersGathered, AreNodeTargets, IsNodeLead, LeadsToNodeKeys}
+use Rattle.live_table.specs.WordTargets.{AreNodeNumbersGathered, AreNodeTargets, IsNodeDestination, LeadsToNodeKeys}
 use Rattle.live_table.specs.Sound.{AreSoundNodes}
 use Rattle.live_table.specs.TableContents.{NodeLists, node_key_at}
 use Rattle.live_table.proofs.GatheredNumbers.{gathered_node_number_is_added}
@@ -240,15 +240,16 @@ module _ (t : EntryTable) (u : WordUse) (w : Targets) (tried : List Key)
           word_looks = λ k. (to k, from k);
         }
 
-    -- the lead of a word of an entry
-    pub is_lead : (ks ls : List Key) (more : IsExplorationGrowth ks ls) (old mid new : List ℕ) (lead : Lead)
+    -- the destination of a word of an entry
+    pub is_destination : (ks ls : List Key) (more : IsExplorationGrowth ks ls) (old mid new : List ℕ)
+        (destination : Destination)
         → is_refused u.text ≡ false
-        → LeadsToNodeKeys ls (last_lookup_keys (lookup_target_count w) tried) lead
+        → LeadsToNodeKeys ls (last_lookup_keys (lookup_target_count w) tried) destination
         → AreNodeNumbersGathered ks (take (length tried - lookup_target_count w) tried) old mid → new ≡ mid
-        → IsNodeLead t ls u old new lead
-    is_lead ks ls more old mid new Refused fine led g same = absurd led
-    is_lead ks ls more old mid new Nowhere fine led g same = (fine, targets_are ∙ led.0)
-    is_lead ks ls more old mid new (One n) fine led g same =
+        → IsNodeDestination t ls u old new destination
+    is_destination ks ls more old mid new Refused fine led g same = absurd led
+    is_destination ks ls more old mid new Nowhere fine led g same = (fine, targets_are ∙ led.0)
+    is_destination ks ls more old mid new (One n) fine led g same =
         (fine, are_targets ks ls more old mid new (n ∷ []) led.0 led.1 g same)
-    is_lead ks ls more old mid new (Two n m) fine led g same =
+    is_destination ks ls more old mid new (Two n m) fine led g same =
         (fine, are_targets ks ls more old mid new (n ∷ m ∷ []) led.0 led.1 g same)

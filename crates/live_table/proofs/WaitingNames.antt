@@ -73,16 +73,18 @@ pub dead_end : ℕ → Option Key → NameFault
 dead_end t holder = Unknown [] holder
 
 -- the names to which the words of a closed name lead, by number
-pub closed_lead_has_node_number : (deck : DeckContents) (l : NodeLists) (n : ℕ) → IsClosedKey (table_of_deck deck)
+pub closed_destination_has_node_number : (deck : DeckContents) (l : NodeLists) (n : ℕ)
+    → IsClosedKey (table_of_deck deck)
     (node_key_at l.keys n)
     → IsFaithfulNode (table_of_deck deck) l n → (k : Key) → TableWordsLeadTo (table_of_deck deck)
     (table_words_of_key (table_of_deck deck) (node_key_at l.keys n)) k
     → (m : ℕ) × (k ≡ node_key_at l.keys m) × Contains (graph_steps l.graph n) (To m)
-closed_lead_has_node_number deck l n closed faithful k w =
+closed_destination_has_node_number deck l n closed faithful k w =
     let us : List WordUse = table_words_of_key (table_of_deck deck) (node_key_at l.keys n) in
     let fine = ((closed_word_law.words (table_of_deck deck) us).0
     ((closed_word_law.key (table_of_deck deck) (node_key_at l.keys n)).0 closed) w.0 w.1).not_refused in
-    step_of_lead (table_of_deck deck) (node_key_at l.keys) dead_end us (graph_steps l.graph n) (faithful dead_end) w.0
+    step_of_lead (table_of_deck deck) (node_key_at l.keys) dead_end us (graph_steps l.graph n)
+    (faithful dead_end) w.0
     w.1 fine k w.2
 
 -- ---- the order in which names wait
@@ -207,13 +209,14 @@ module _ (deck : DeckContents) (l : NodeLists) (r n : ℕ) (sound : IsSoundLiveT
       (node_key_at l.keys n) → ⊥
   not_led m s w =
       let closed = sound.is_right.settled_closed (node_key_at l.keys m) (key_settled deck l r sound.numbers m s) in
-      let q = closed_lead_has_node_number deck l m closed (sound.numbers.faithful m s) (node_key_at l.keys n) w in
+      let q = closed_destination_has_node_number deck l m closed (sound.numbers.faithful m s)
+      (node_key_at l.keys n) w in
       not_own q.0 ((sound.numbers.net.settled_right m s).1 q.0 q.2) q.1
 
   not_self : TableWordsLeadTo (table_of_deck deck) (table_words_of_key (table_of_deck deck) (node_key_at l.keys n))
       (node_key_at l.keys n) → ⊥
   not_self w =
-      let q = closed_lead_has_node_number deck l n due.key_closed due.faithful (node_key_at l.keys n) w in
+      let q = closed_destination_has_node_number deck l n due.key_closed due.faithful (node_key_at l.keys n) w in
       not_own q.0 (due.targets_settled q.0 q.2) q.1
 
   module _ (waiting : List ℕ) (g : NameEdgeGraph) (edges : HasLateSettledEdges deck l waiting g) where

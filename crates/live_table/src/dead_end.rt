@@ -1,11 +1,11 @@
 //! Words that lead nowhere.
 
 ghost use Rattle.std.specs.Prelude.{◌≡◌, IfOk};
-ghost use Rattle.live_table.specs.WordTargets.{is_refused_node_lead};
+ghost use Rattle.live_table.specs.WordTargets.{is_refused_node_destination};
 ghost use Rattle.live_table.specs.ExploredNames.{explored_dead_end_fault};
 ghost use Rattle.std.specs.Option.{option_copied};
 
-use crate::word_targets::Lead;
+use crate::word_targets::Destination;
 use def_entry::Key;
 use expr_tree::WordUse;
 use std::alloc::{AllocError, Global};
@@ -29,12 +29,17 @@ impl Drop for DeadEnd {
 }
 
 impl DeadEnd {
-    /// Creates the dead end of a word from its lead. The only error is lack of memory.
-    pub(crate) fn new(alloc: Global, u: &WordUse<'_>, lead: Lead) -> Result<DeadEnd, AllocError>
-        ensures { IfOk result (λ end. end ≡ record { text = u.now.text; is_refused = is_refused_node_lead lead }) }
+    /// Creates the dead end of a word from its destination. The only error is lack of memory.
+    pub(crate) fn new(
+        alloc: Global,
+        u: &WordUse<'_>,
+        destination: Destination,
+    ) -> Result<DeadEnd, AllocError>
+        ensures { IfOk result (λ end. end
+            ≡ record { text = u.now.text; is_refused = is_refused_node_destination destination }) }
     {
         let text = Text::from_bytes(alloc, u.text())?;
-        let is_refused = matches!(lead, Lead::Refused);
+        let is_refused = matches!(destination, Destination::Refused);
         Ok(DeadEnd { text, is_refused })
     }
 

@@ -12,7 +12,7 @@ use crate::dead_end::DeadEnd;
 use crate::nodes::Nodes;
 use crate::tried_keys::TriedKeys;
 use crate::word_steps::target_steps;
-use crate::word_targets::query_lead;
+use crate::word_targets::query_destination;
 use crate::worklist::Worklist;
 use deck::Deck;
 use expr_tree::Words;
@@ -49,9 +49,9 @@ pub(crate) fn query_steps(
 {
     let mut steps = StepList::new(alloc);
     for u in words.as_slice() {
-        let lead = query_lead(alloc, deck, nodes, tried, u)?;
-        let Some(word) = target_steps(nodes, explored, worklist, lead)? else {
-            let end = Some(DeadEnd::new(alloc, u, lead)?);
+        let destination = query_destination(alloc, deck, nodes, tried, u)?;
+        let Some(word) = target_steps(nodes, explored, worklist, destination)? else {
+            let end = Some(DeadEnd::new(alloc, u, destination)?);
             return Ok(QuerySteps { steps, end });
         };
         steps.push(word.first)?;

@@ -13,7 +13,7 @@ use crate::deck_table::DeckTable;
 use crate::nodes::Nodes;
 use crate::numbered_keys::number;
 use crate::tried_keys::TriedKeys;
-use crate::word_targets::Lead;
+use crate::word_targets::Destination;
 use deck::Deck;
 use name_lookup::Targets;
 use std::alloc::{AllocError, Global};
@@ -42,15 +42,15 @@ pub(crate) fn gather_others(
     Ok(())
 }
 
-/// Gives numbers to the targets among the keys that were tried, and returns the lead of the word by number. The only
-/// error is lack of memory.
+/// Gives numbers to the targets among the keys that were tried, and returns the destination of the word by number. The
+/// only error is lack of memory.
 pub(crate) fn number_targets(
     alloc: Global,
     deck: &Deck,
     nodes: &mut Nodes,
     tried: &TriedKeys,
     targets: Targets,
-) -> Result<Lead, AllocError>
+) -> Result<Destination, AllocError>
     requires nodes { AreSoundNodes (table_of_deck deck.now) (node_lists nodes.old) }
     requires enough { lookup_target_count targets ≤ length tried.now }
     ensures added { (before list : List ℕ) (ends : List DeadEnd)
@@ -58,19 +58,19 @@ pub(crate) fn number_targets(
         → AreNodesAdded (table_of_deck deck.now) (node_lists nodes.old) (node_lists nodes.new) before list list ends
         ends }
     ensures gathered { nodes.new.gathered ≡ nodes.old.gathered }
-    ensures lead { IfOk result
+    ensures destination { IfOk result
         (LeadsToNodeKeys nodes.new.keys (last_lookup_keys (lookup_target_count targets) tried.now)) }
 {
     match targets {
-        Targets::Nowhere => Ok(Lead::Nowhere),
+        Targets::Nowhere => Ok(Destination::Nowhere),
         Targets::Last => {
             let n = number_at(alloc, deck, nodes, tried, tried.len() - 1)?;
-            Ok(Lead::One(n))
+            Ok(Destination::One(n))
         }
         Targets::LastTwo => {
             let n = number_at(alloc, deck, nodes, tried, tried.len() - 2)?;
             let m = number_at(alloc, deck, nodes, tried, tried.len() - 1)?;
-            Ok(Lead::Two(n, m))
+            Ok(Destination::Two(n, m))
         }
     }
 }

@@ -6,7 +6,8 @@ ghost use Rattle.deck.specs.Tables.{table_of_deck};
 ghost use Rattle.live_table.specs.declared.dead_end.DeadEnd as dead_end_spec;
 ghost use Rattle.live_table.specs.Exploration.{AreExplorationSteps, AreExplorationStepsAfter, AreNodesAdded};
 ghost use Rattle.live_table.specs.Exploration.{IsExplorationAgenda, IsExplorationGrowth, IsKnownToExploration};
-ghost use Rattle.live_table.specs.WordTargets.{is_refused_node_lead, lead_node_numbers, node_steps_of_lead};
+ghost use Rattle.live_table.specs.WordTargets.{is_refused_node_destination, destination_node_numbers};
+ghost use Rattle.live_table.specs.WordTargets.{node_steps_of_destination};
 ghost use Rattle.live_table.specs.Looks.{AllNodeStepsLead, AreNodeLooks, AreNodeLooksAdded};
 ghost use Rattle.live_table.specs.Sound.{AreSoundNodes};
 ghost use Rattle.live_table.specs.TableContents.{node_key_at, node_lists};
@@ -15,7 +16,7 @@ use crate::dead_end::DeadEnd;
 use crate::nodes::Nodes;
 use crate::numbered_keys::put_target;
 use crate::tried_keys::TriedKeys;
-use crate::word_targets::{Lead, lead_of};
+use crate::word_targets::{Destination, destination_of};
 use crate::worklist::Worklist;
 use deck::Deck;
 use expr_tree::{WordUse, Words};
@@ -110,10 +111,10 @@ fn word_steps(
         → AreNodeLooksAdded (table_of_deck deck.now) nodes.new.keys u.now (steps.first ∷ steps.second ∷ [])
         nodes.old.gathered nodes.new.gathered) }
 {
-    let lead = lead_of(alloc, deck, nodes, tried, u)?;
-    match target_steps(nodes, explored, worklist, lead)? {
+    let destination = destination_of(alloc, deck, nodes, tried, u)?;
+    match target_steps(nodes, explored, worklist, destination)? {
         Some(steps) => Ok(steps),
-        None => put_dead_end(alloc, u, lead, dead_ends),
+        None => put_dead_end(alloc, u, destination, dead_ends),
     }
 }
 
@@ -123,30 +124,31 @@ pub(crate) fn target_steps(
     nodes: &Nodes,
     explored: &Worklist,
     worklist: &mut Worklist,
-    lead: Lead,
+    destination: Destination,
 ) -> Result<Option<WordSteps>, AllocError>
     requires nodes { (table : EntryTable) × AreSoundNodes table (node_lists nodes.now) }
-    requires within { (m : ℕ) → Contains (lead_node_numbers lead) m → m < length nodes.now.keys }
+    requires within { (m : ℕ) → Contains (destination_node_numbers destination) m → m < length nodes.now.keys }
     ensures added { (table : EntryTable) (ends : List dead_end_spec.DeadEnd)
         → AreSoundNodes table (node_lists nodes.now)
         → IsExplorationAgenda table (node_lists nodes.now) explored.now worklist.old
-        → ((m : ℕ) → Contains (lead_node_numbers lead) m → is_entry_present table (node_key_at nodes.now.keys m) ≡ true)
+        → ((m : ℕ) → Contains (destination_node_numbers destination) m
+        → is_entry_present table (node_key_at nodes.now.keys m) ≡ true)
         → AreNodesAdded table (node_lists nodes.now) (node_lists nodes.now) explored.now worklist.old worklist.new ends
         ends }
-    ensures known { IfOk result (λ _. (m : ℕ) → Contains (lead_node_numbers lead) m
+    ensures known { IfOk result (λ _. (m : ℕ) → Contains (destination_node_numbers destination) m
         → IsKnownToExploration (node_lists nodes.now) explored.now worklist.new m) }
-    ensures steps { IfOk result (λ steps. steps ≡ node_steps_of_lead lead) }
+    ensures steps { IfOk result (λ steps. steps ≡ node_steps_of_destination destination) }
 {
-    match lead {
-        Lead::Refused | Lead::Nowhere => Ok(None),
-        Lead::One(n) => {
+    match destination {
+        Destination::Refused | Destination::Nowhere => Ok(None),
+        Destination::One(n) => {
             put_target(nodes, explored, worklist, n)?;
             Ok(Some(WordSteps {
                 first: Step::To(n),
                 second: Step::To(n),
             }))
         }
-        Lead::Two(n, m) => {
+        Destination::Two(n, m) => {
             put_target(nodes, explored, worklist, n)?;
             put_target(nodes, explored, worklist, m)?;
             Ok(Some(WordSteps {
@@ -161,17 +163,18 @@ pub(crate) fn target_steps(
 fn put_dead_end(
     alloc: Global,
     u: &WordUse<'_>,
-    lead: Lead,
+    destination: Destination,
     dead_ends: &mut Vec<DeadEnd>,
 ) -> Result<WordSteps, AllocError>
     ensures more { IsExplorationGrowth dead_ends.old.items dead_ends.new.items }
     ensures put { IfOk result (λ _. dead_ends.new.items
-        ≡ dead_ends.old.items ++ record { text = u.now.text; is_refused = is_refused_node_lead lead } ∷ []) }
+        ≡ dead_ends.old.items
+        ++ record { text = u.now.text; is_refused = is_refused_node_destination destination } ∷ []) }
     ensures first { IfOk result (λ steps. steps.first ≡ Step.Nowhere (length dead_ends.old.items)) }
     ensures second { IfOk result (λ steps. steps.second ≡ Step.Nowhere (length dead_ends.old.items)) }
 {
     let step = Step::Nowhere(dead_ends.len());
-    dead_ends.push(DeadEnd::new(alloc, u, lead)?)?;
+    dead_ends.push(DeadEnd::new(alloc, u, destination)?)?;
     Ok(WordSteps {
         first: step,
         second: step,

@@ -5,9 +5,9 @@ ghost use Rattle.deck.specs.Tables.{table_of_deck};
 ghost use Rattle.table_names.specs.Leads.{table_word_targets};
 ghost use Rattle.live_table.specs.TableContents.{node_key_at};
 ghost use Rattle.value_sources.specs.Leads as spec;
-ghost use Rattle.value_sources.specs.Leads.{source_lead_keys};
+ghost use Rattle.value_sources.specs.Leads.{source_destination_keys};
 
-use crate::word_keys::Lead;
+use crate::word_keys::Destination;
 use deck::Deck;
 use def_entry::{Key, Kind};
 use expr_tree::{WordKind, WordUse};
@@ -30,20 +30,20 @@ impl<'a> Lookup<'a> {
         &self,
         tried: &mut TriedKeys,
         word: &WordUse,
-    ) -> Result<Lead, AllocError>
-        ensures { IfOk result (λ lead. table_word_targets (table_of_deck self.now.deck.now) word.now
-            ≡ source_lead_keys lead) }
+    ) -> Result<Destination, AllocError>
+        ensures { IfOk result (λ destination. table_word_targets (table_of_deck self.now.deck.now) word.now
+            ≡ source_destination_keys destination) }
     {
         lookup_law();
         tried.clear();
         let table = DeckTable(self.deck);
         match resolve(self.alloc, &table, tried, word.text(), word.kind())? {
-            Targets::Nowhere => Ok(Lead::Nowhere),
-            Targets::Last => Ok(Lead::One(self.last_key(tried, 1)?)),
+            Targets::Nowhere => Ok(Destination::Nowhere),
+            Targets::Last => Ok(Destination::One(self.last_key(tried, 1)?)),
             Targets::LastTwo => {
                 let prefix = self.last_key(tried, 2)?;
                 let unit = self.last_key(tried, 1)?;
-                Ok(Lead::Two(prefix, unit))
+                Ok(Destination::Two(prefix, unit))
             }
         }
     }

@@ -5,7 +5,7 @@ ghost use Rattle.def_entry.specs.declared.key.Key.{Key as AnyKey};
 ghost use Rattle.deck.specs.Decks.{DeckContents};
 ghost use Rattle.deck.specs.Tables.{is_entry_present, table_of_deck};
 ghost use Rattle.table_names.specs.Leads.{table_word_targets};
-ghost use Rattle.value_sources.specs.Leads.{source_lead_keys};
+ghost use Rattle.value_sources.specs.Leads.{source_destination_keys};
 ghost use Rattle.value_sources.specs.Mentions as spec;
 ghost use Rattle.value_sources.specs.PlacedMentions.{mention_with_place, placed_mentions, placed_mentions_to};
 ghost use Rattle.value_sources.specs.StoredMentions.{placed_mention_in, placed_mention_list};
@@ -15,7 +15,7 @@ ghost use Rattle.value_sources.specs.Uses.{source_use_at, source_uses_at};
 use crate::lookup::{Lookup, first_kind};
 use crate::mention::{Location, StoredMention};
 use crate::resolution::Resolution;
-use crate::word_keys::Lead;
+use crate::word_keys::Destination;
 use def_entry::Key;
 use expr_tree::{WordUse, Words};
 use live_table::TriedKeys;
@@ -62,32 +62,35 @@ impl<'a> Lookup<'a> {
         if let Some(place) = self.deck.place_of(first_kind(word.kind()), word.text()) {
             return put_mention(mentions, named_mention(location, word, Some(place)));
         }
-        let lead = self.keys_of_word(tried, word)?;
-        self.put_lead(mentions, location, word, lead)
+        let destination = self.keys_of_word(tried, word)?;
+        self.put_destination(mentions, location, word, destination)
     }
 
-    // Appends the mentions of a word with this lead.
-    fn put_lead(
+    // Appends the mentions of a word with this destination.
+    fn put_destination(
         &self,
         mentions: &mut Vec<StoredMention>,
         location: Location,
         word: &WordUse,
-        lead: Lead,
+        destination: Destination,
     ) -> Result<(), AllocError>
-        ensures { OnOk result (((n : AnyKey) → Contains (source_lead_keys lead) n
+        ensures { OnOk result (((n : AnyKey) → Contains (source_destination_keys destination) n
             → is_entry_present (table_of_deck self.now.deck.now) n ≡ true)
             → placed_mention_list self.now.deck.now mentions.new.items
             ≡ placed_mention_list self.now.deck.now mentions.old.items
             ++ placed_mentions_to self.now.deck.now location.depth (source_use_at location.site word.now)
-            (source_lead_keys lead)) }
+            (source_destination_keys destination)) }
     {
-        match lead {
-            Lead::Nowhere => {
+        match destination {
+            Destination::Nowhere => {
                 let mention = mention(self.alloc, location, word, Resolution::Unknown, None)?;
                 put_mention(mentions, mention)
             }
-            Lead::One(key) => put_mention(mentions, self.sole_mention(location, word, &key)?),
-            Lead::Two(prefix, unit) => {
+            Destination::One(key) => put_mention(
+                mentions,
+                self.sole_mention(location, word, &key)?,
+            ),
+            Destination::Two(prefix, unit) => {
                 let place = self.deck.last_place(&prefix);
                 let first = mention(self.alloc, location, word, Resolution::Prefix, place)?;
                 put_mention(mentions, first)?;

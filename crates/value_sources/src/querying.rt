@@ -6,7 +6,7 @@ ghost use Rattle.expr_tree.specs.Trees.{syntax};
 ghost use Rattle.value_sources.specs.FailedSteps as spec;
 
 use crate::lookup::Lookup;
-use crate::word_keys::Lead;
+use crate::word_keys::Destination;
 use def_entry::Kind;
 use expr_tree::{Tree, WordKind, WordUse};
 use live_table::{LiveTable, TriedKeys};
@@ -50,8 +50,8 @@ pub(crate) fn is_function(
     let mut tried = TriedKeys::new(alloc);
     let word = WordUse::new(word.as_bytes(), kind);
     match lookup.keys_of_word(&mut tried, &word)? {
-        Lead::One(key) => Ok(is_function_kind(key.kind)),
-        Lead::Nowhere | Lead::Two(_, _) => Ok(false),
+        Destination::One(key) => Ok(is_function_kind(key.kind)),
+        Destination::Nowhere | Destination::Two(_, _) => Ok(false),
     }
 }
 

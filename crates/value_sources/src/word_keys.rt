@@ -4,7 +4,7 @@ use def_entry::Key;
 
 /// The keys that a word leads to.
 #[derive(Drop)]
-pub(crate) enum Lead {
+pub(crate) enum Destination {
     /// The word leads to no key.
     Nowhere,
     /// The word leads to a single key.

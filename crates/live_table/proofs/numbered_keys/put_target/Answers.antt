@@ -3,7 +3,7 @@ use Rattle.std.proofs.lemmas.Option.{slice_get-get_or}
 use Rattle.live_table.specs.Exploration.{AreNodesAdded}
 use Rattle.live_table.specs.TableContents.{node_lists}
 use Rattle.live_table.proofs.AddedNames.{no_nodes_are_added}
-use Rattle.live_table.proofs.LeadTargets.{agenda_put_keeps_numbers}
+use Rattle.live_table.proofs.DestinationTargets.{agenda_put_keeps_numbers}
 use Rattle.live_table.proofs.AgendaPuts.{agenda_put_is_node_addition, each_node_has_settled_flag}
 use Rattle.live_table.proofs.AgendaPuts.{node_without_mark_is_unsettled, put_number_is_on_agenda}
 use Rattle.live_table.proofs.AgendaPuts.{unfound_number_is_not_on_agenda}

@@ -7,46 +7,49 @@ use Rattle.live_table.specs.declared.dead_end.DeadEnd.{DeadEnd}
 use Rattle.live_table.specs.Exploration.{AreNodesAdded}
 use Rattle.live_table.specs.TableContents.{node_lists}
 use Rattle.live_table.proofs.AddedNames.{two_node_additions_are_one}
-use Rattle.live_table.proofs.LeadSteps.{lead_present, lead_within}
+use Rattle.live_table.proofs.DestinationSteps.{destination_present, destination_within}
 use Rattle.live_table.proofs.QuerySteps.{IsTurn, stepped_added, stepping_cut, stepping_next}
 use Rattle.live_table.proofs.query_words.query_steps.Goals as goal
-use Rattle.live_table.proofs.query_words.query_steps.Goals.{After-query_lead, After-target_steps}
+use Rattle.live_table.proofs.query_words.query_steps.Goals.{After-query_destination, After-target_steps}
 
--- the lead of a word adds these names in this turn
-led : (c : After-query_lead) (ends : List DeadEnd)
-    → AreNodesAdded (table_of_deck c.args.deck.now) (node_lists c.loop-u.nodes) (node_lists c.query_lead.new.nodes)
+-- the destination of a word adds these names in this turn
+led : (c : After-query_destination) (ends : List DeadEnd)
+    → AreNodesAdded (table_of_deck c.args.deck.now) (node_lists c.loop-u.nodes)
+    (node_lists c.query_destination.new.nodes)
     c.args.explored.now
     c.loop-u.worklist c.loop-u.worklist ends ends
 led c ends =
-    c.query_lead.ensures.added c.args.explored.now c.loop-u.worklist ends
+    c.query_destination.ensures.added c.args.explored.now c.loop-u.worklist ends
     (c.loop-u.invariant.added ends).growth.list_right
 
-pub query_lead-requires : goal.query_lead-requires
-query_lead-requires c = (c.loop-u.invariant.added []).growth.nodes
+pub query_destination-requires : goal.query_destination-requires
+query_destination-requires c = (c.loop-u.invariant.added []).growth.nodes
 
-pub returns-in_err-lead-clause-added : goal.returns-in_err-lead-clause-added
-returns-in_err-lead-clause-added c ends =
+pub returns-in_err-destination-clause-added : goal.returns-in_err-destination-clause-added
+returns-in_err-destination-clause-added c ends =
     two_node_additions_are_one (table_of_deck c.args.deck.now) (node_lists c.args.nodes.now) (node_lists c.loop-u.nodes)
-    (node_lists c.query_lead.new.nodes)
+    (node_lists c.query_destination.new.nodes)
     c.args.explored.now c.args.worklist.now c.loop-u.worklist c.loop-u.worklist ends ends ends
-    (c.loop-u.invariant.added ends) (led (goal.at.returns-in_err-lead-clause-added c).After-query_lead ends)
+    (c.loop-u.invariant.added ends) (led (goal.at.returns-in_err-destination-clause-added
+    c).After-query_destination ends)
 
 pub target_steps-requires-clause-nodes : goal.target_steps-requires-clause-nodes
 target_steps-requires-clause-nodes c = (
   table_of_deck c.args.deck.now,
-  (led (goal.at.target_steps-requires-clause-nodes c).After-query_lead
+  (led (goal.at.target_steps-requires-clause-nodes c).After-query_destination
       []).growth.nodes,
 )
 
 pub target_steps-requires-clause-within : goal.target_steps-requires-clause-within
 target_steps-requires-clause-within c =
-    lead_within (table_of_deck c.args.deck.now) c.query_lead.new.nodes.keys c.u-item.result c.in_ok-lead.lead
-    c.in_ok-lead.ensures.lead
+    destination_within (table_of_deck c.args.deck.now) c.query_destination.new.nodes.keys c.u-item.result
+    c.in_ok-destination.destination
+    c.in_ok-destination.ensures.destination
 
 -- this turn, with the word at its place
 turn : (c : After-target_steps)
     → IsTurn (table_of_deck c.args.deck.now) (node_lists c.args.nodes.now) (node_lists c.loop-u.nodes)
-    (node_lists c.query_lead.new.nodes)
+    (node_lists c.query_destination.new.nodes)
     c.args.explored.now c.args.worklist.now c.loop-u.worklist c.target_steps.new.worklist c.args.words.now
     c.loop-u.steps c.loop-u.u-index c.u-item.result
 turn c = record {
@@ -55,24 +58,26 @@ turn c = record {
       ∙ ap Some (sym c.u-item.is));
   start = c.loop-u.invariant;
   led = λ ends.
-      c.query_lead.ensures.added c.args.explored.now c.loop-u.worklist ends
+      c.query_destination.ensures.added c.args.explored.now c.loop-u.worklist ends
       (c.loop-u.invariant.added ends).growth.list_right;
   put = λ ends.
-      let added = c.query_lead.ensures.added c.args.explored.now c.loop-u.worklist ends
+      let added = c.query_destination.ensures.added c.args.explored.now c.loop-u.worklist ends
       (c.loop-u.invariant.added ends).growth.list_right in
       c.target_steps.ensures.added (table_of_deck c.args.deck.now) ends added.growth.nodes added.growth.list_right
-      (lead_present (table_of_deck c.args.deck.now) c.query_lead.new.nodes.keys c.u-item.result c.in_ok-lead.lead
-      c.in_ok-lead.ensures.lead);
+      (destination_present (table_of_deck c.args.deck.now) c.query_destination.new.nodes.keys c.u-item.result
+      c.in_ok-destination.destination
+      c.in_ok-destination.ensures.destination);
 }
 
 -- the names that the turn adds
 added : (c : After-target_steps) (ends : List DeadEnd)
-    → AreNodesAdded (table_of_deck c.args.deck.now) (node_lists c.args.nodes.now) (node_lists c.query_lead.new.nodes)
+    → AreNodesAdded (table_of_deck c.args.deck.now) (node_lists c.args.nodes.now)
+    (node_lists c.query_destination.new.nodes)
     c.args.explored.now
     c.args.worklist.now c.target_steps.new.worklist ends ends
 added c ends =
     stepped_added (table_of_deck c.args.deck.now) (node_lists c.args.nodes.now) (node_lists c.loop-u.nodes)
-    (node_lists c.query_lead.new.nodes) c.args.explored.now c.args.worklist.now c.loop-u.worklist
+    (node_lists c.query_destination.new.nodes) c.args.explored.now c.args.worklist.now c.loop-u.worklist
     c.target_steps.new.worklist
     c.args.words.now c.loop-u.steps c.loop-u.u-index c.u-item.result (turn c) ends
 
@@ -94,18 +99,20 @@ returns-in_err-push-2-clause-added c = added (goal.at.returns-in_err-push-2-clau
 pub returns-in_default-clause-steps : goal.returns-in_default-clause-steps
 returns-in_default-clause-steps c =
     stepping_cut (table_of_deck c.args.deck.now) (node_lists c.args.nodes.now) (node_lists c.loop-u.nodes)
-    (node_lists c.query_lead.new.nodes) c.args.explored.now c.args.worklist.now c.loop-u.worklist
+    (node_lists c.query_destination.new.nodes) c.args.explored.now c.args.worklist.now c.loop-u.worklist
     c.target_steps.new.worklist
     c.args.words.now c.loop-u.steps c.loop-u.u-index c.u-item.result
-    (turn (goal.at.returns-in_default-clause-steps c).After-target_steps) c.in_ok-lead.lead c.in_ok-lead.ensures.lead
+    (turn (goal.at.returns-in_default-clause-steps c).After-target_steps) c.in_ok-destination.destination
+    c.in_ok-destination.ensures.destination
     (sym c.in_default.is ∙ c.in_ok-word.ensures.steps) c.in_ok-new.field-0 c.in_ok-new.ensures
 
 pub loop-u-preserved : goal.loop-u-preserved
 loop-u-preserved c =
     stepping_next (table_of_deck c.args.deck.now) (node_lists c.args.nodes.now) (node_lists c.loop-u.nodes)
-    (node_lists c.query_lead.new.nodes) c.args.explored.now c.args.worklist.now c.loop-u.worklist
+    (node_lists c.query_destination.new.nodes) c.args.explored.now c.args.worklist.now c.loop-u.worklist
     c.target_steps.new.worklist
     c.args.words.now c.loop-u.steps c.loop-u.u-index c.u-item.result
-    (turn (goal.at.loop-u-preserved c).After-target_steps) c.in_ok-lead.lead c.in_ok-lead.ensures.lead
+    (turn (goal.at.loop-u-preserved c).After-target_steps) c.in_ok-destination.destination
+    c.in_ok-destination.ensures.destination
     c.in_ok-word.ensures.known c.in-Some.word (sym c.in-Some.is ∙ c.in_ok-word.ensures.steps) c.push.new.self
     c.push-in-loop-u.new.self c.in_ok-push.ensures.ok c.in_ok-push-2.ensures.ok

@@ -2,7 +2,7 @@ use Rattle.std.proofs.Common.{◌≤◌, ◌-◌, ℕ, length, ap, subst, sym}
 use Rattle.deck.specs.Tables.{table_of_deck}
 use Rattle.name_lookup.specs.declared.targets.Targets.{Targets}
 use Rattle.name_lookup.specs.Targets.{last_lookup_keys, lookup_target_count}
-use Rattle.live_table.specs.declared.word_targets.Lead.TheVariants.{Two}
+use Rattle.live_table.specs.declared.word_targets.Destination.TheVariants.{Two}
 use Rattle.live_table.specs.WordTargets.{LeadsToNodeKeys}
 use Rattle.live_table.specs.TableContents.{node_lists}
 use Rattle.live_table.proofs.TriedNumbers.{added_names_keep_node_keys, added_nodes_are_sound}
@@ -29,8 +29,8 @@ returns-in_ok-m-in-LastTwo-clause-added c =
     (node_lists c.number_at-in-LastTwo-2.new.nodes) c.number_at-in-LastTwo.ensures.added
     c.number_at-in-LastTwo-2.ensures.added
 
-pub returns-in_ok-m-in-LastTwo-clause-lead : goal.returns-in_ok-m-in-LastTwo-clause-lead
-returns-in_ok-m-in-LastTwo-clause-lead c =
+pub returns-in_ok-m-in-LastTwo-clause-destination : goal.returns-in_ok-m-in-LastTwo-clause-destination
+returns-in_ok-m-in-LastTwo-clause-destination c =
     let keys = c.number_at-in-LastTwo-2.new.nodes.keys in
     subst (λ (which : Targets). LeadsToNodeKeys keys (last_lookup_keys (lookup_target_count which) c.args.tried.now)
     (Two c.in_ok-n-in-LastTwo.n c.in_ok-m-in-LastTwo.m)) (sym c.in-LastTwo.is)

@@ -4,7 +4,7 @@ use Rattle.def_entry.specs.declared.key.Key.{Key}
 use Rattle.def_entry.specs.Keys.{key}
 use Rattle.deck.specs.Tables.{is_entry_present, last_definition_place, table_of_deck}
 use Rattle.table_names.specs.Leads.{table_word_targets}
-use Rattle.value_sources.specs.Leads.{first_kind_of_mentioned_word, source_lead_keys}
+use Rattle.value_sources.specs.Leads.{first_kind_of_mentioned_word, source_destination_keys}
 use Rattle.value_sources.specs.PlacedMentions.{PlacedMention, placed_mentions_to}
 use Rattle.value_sources.specs.StoredMentions.{placed_mention_list}
 use Rattle.value_sources.specs.Uses.{source_use_at}
@@ -34,12 +34,13 @@ pub returns : goal.returns
 returns c =
     let d = c.args.self.now.deck.now in
     let u = c.args.word.now in
-    let led : table_word_targets (table_of_deck d) u ≡ source_lead_keys c.in_ok-lead.lead = c.in_ok-lead.ensures in
-    on_ok_weaker c.put_lead.result
+    let led : table_word_targets (table_of_deck d) u ≡ source_destination_keys c.in_ok-destination.destination =
+    c.in_ok-destination.ensures in
+    on_ok_weaker c.put_destination.result
     (λ f. f (λ n i. (c.targets_are_present.ensures (is_entry_present (table_of_deck d)) u.kind u.text n
     (subst (λ (ks : List Key). Contains ks n) (sym led) i)).1)
     ∙ ap (λ (ks : List Key). placed_mention_list d c.args.mentions.now.items ++ placed_mentions_to d
     c.args.location.depth
     (source_use_at c.args.location.site u) ks)
     (sym led))
-    c.put_lead.ensures
+    c.put_destination.ensures

@@ -5,9 +5,9 @@ use Rattle.deck.specs.Tables.{table_of_deck}
 use Rattle.name_lookup.specs.Targets.{AreLookupTargetsFound}
 use Rattle.table_names.specs.Leads.{table_word_lookup}
 use Rattle.live_table.specs.TableContents.{node_lists}
-use Rattle.live_table.proofs.TriedNumbers.{added_names_keep_node_keys, added_nodes_are_sound, is_lead}
+use Rattle.live_table.proofs.TriedNumbers.{added_names_keep_node_keys, added_nodes_are_sound, is_destination}
 use Rattle.live_table.proofs.TriedNumbers.{node_name_additions_in_turn, node_targets_found_by_search, none_found}
-use Rattle.live_table.proofs.word_targets.lead_of.Goals as goal
+use Rattle.live_table.proofs.word_targets.destination_of.Goals as goal
 
 pub number_targets-requires-clause-nodes : goal.number_targets-requires-clause-nodes
 number_targets-requires-clause-nodes c =
@@ -21,8 +21,8 @@ returns-clause-added c =
     (node_lists c.gather_others.new.nodes)
     (node_lists c.number_targets.new.nodes) c.gather_others.ensures.added c.number_targets.ensures.added
 
-pub returns-clause-lead : goal.returns-clause-lead
-returns-clause-lead c =
+pub returns-clause-destination : goal.returns-clause-destination
+returns-clause-destination c =
     let t = table_of_deck c.args.deck.now in
     let u = c.args.u.now in
     let which = c.in_ok-targets.targets in
@@ -35,15 +35,15 @@ returns-clause-lead c =
     let fine : is_refused u.text ≡ false =
     sym (c.is_refused.ensures ∙ ap is_refused c.text.ensures) ∙ c.if-is_refused.false in
     IfOk-weaker c.number_targets.result _ _
-    (λ lead led. is_lead t u which tried found first.keys then.keys
+    (λ destination led. is_destination t u which tried found first.keys then.keys
     (added_names_keep_node_keys t (node_lists first) (node_lists then) c.number_targets.ensures.added)
     c.args.nodes.now.gathered
     first.gathered
-    then.gathered lead fine led c.in_ok-gather_others.ensures.gathered c.number_targets.ensures.gathered)
-    c.number_targets.ensures.lead
+    then.gathered destination fine led c.in_ok-gather_others.ensures.gathered c.number_targets.ensures.gathered)
+    c.number_targets.ensures.destination
 
-pub returns-then-count-eq0-clause-lead : goal.returns-then-count-eq0-clause-lead
-returns-then-count-eq0-clause-lead c =
+pub returns-then-count-eq0-clause-destination : goal.returns-then-count-eq0-clause-destination
+returns-then-count-eq0-clause-destination c =
     let t = table_of_deck c.args.deck.now in
     let u = c.args.u.now in
     let which = c.in_ok-targets.targets in

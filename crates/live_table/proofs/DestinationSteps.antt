@@ -1,4 +1,4 @@
--- The steps of a word, by its lead.
+-- The steps of a word, by its destination.
 use Rattle.std.proofs.Common.{◌≡◌, ◌<◌, ◌++◌, ℕ, true, List, [], ◌∷◌, length, Some, None, refl, sym, subst, inl, inr}
 use Rattle.std.proofs.Common.{Contains}
 use Rattle.std.proofs.lemmas.Option.{same_Some}
@@ -9,12 +9,13 @@ use Rattle.name_walk.specs.declared.step.Step.{Step}
 use Rattle.name_walk.specs.declared.step.Step.TheVariants as step
 use Rattle.name_numbers.specs.NumberedNames.{ForOne, ForTwo}
 use Rattle.live_table.specs.declared.dead_end.DeadEnd.{DeadEnd}
-use Rattle.live_table.specs.declared.word_targets.Lead.{Lead}
-use Rattle.live_table.specs.declared.word_targets.Lead.TheVariants.{Refused, Nowhere, One, Two}
+use Rattle.live_table.specs.declared.word_targets.Destination.{Destination}
+use Rattle.live_table.specs.declared.word_targets.Destination.TheVariants.{Refused, Nowhere, One, Two}
 use Rattle.live_table.specs.declared.word_steps.WordSteps.{WordSteps}
 use Rattle.live_table.specs.Exploration.{AreExplorationSteps, IsKnownToExploration}
-use Rattle.live_table.specs.WordTargets.{IsLiveQueryLead, IsNodeLead, is_refused_node_lead, lead_node_numbers}
-use Rattle.live_table.specs.WordTargets.{node_steps_of_lead}
+use Rattle.live_table.specs.WordTargets.{IsLiveQueryDestination, IsNodeDestination, destination_node_numbers}
+use Rattle.live_table.specs.WordTargets.{is_refused_node_destination}
+use Rattle.live_table.specs.WordTargets.{node_steps_of_destination}
 use Rattle.live_table.specs.Looks.{AreNodeLooksAdded}
 use Rattle.live_table.specs.TableContents.{NodeLists, node_key_at}
 use Rattle.live_table.proofs.LookedKeys.{looks_put, single_node_target_is_both_steps, two_node_targets_are_two_steps}
@@ -23,37 +24,40 @@ use Rattle.live_table.proofs.WrittenSteps.{second_node_target_is_present, two_wr
 use Rattle.general_lemmas.proofs.Members.{no_member, member_first, member_later, member_cases}
 
 -- ---- targets
--- the lead of a word of an entry is that of a word of a query
-pub node_lead_is_query_lead : (t : EntryTable) (keys : List Key) (u : WordUse) (old new : List ℕ) (lead : Lead)
-    → IsNodeLead t keys u old new lead → IsLiveQueryLead t keys u lead
-node_lead_is_query_lead t keys u old new Refused h = h
-node_lead_is_query_lead t keys u old new Nowhere h = (h.0, h.1, λ m i. absurd (no_member m i))
-node_lead_is_query_lead t keys u old new (One n) h = (h.0, h.1.targets, h.1.targets_in_table)
-node_lead_is_query_lead t keys u old new (Two n m) h = (h.0, h.1.targets, h.1.targets_in_table)
+-- the destination of a word of an entry is that of a word of a query
+pub node_destination_is_query_destination : (t : EntryTable) (keys : List Key) (u : WordUse) (old new : List ℕ)
+    (destination : Destination)
+    → IsNodeDestination t keys u old new destination → IsLiveQueryDestination t keys u destination
+node_destination_is_query_destination t keys u old new Refused h = h
+node_destination_is_query_destination t keys u old new Nowhere h = (h.0, h.1, λ m i. absurd (no_member m i))
+node_destination_is_query_destination t keys u old new (One n) h = (h.0, h.1.targets, h.1.targets_in_table)
+node_destination_is_query_destination t keys u old new (Two n m) h = (h.0, h.1.targets, h.1.targets_in_table)
 
 module _ (t : EntryTable) (keys : List Key) (u : WordUse) where
   -- targets have numbers
-  pub lead_within : (lead : Lead) → IsLiveQueryLead t keys u lead → (m : ℕ) → Contains (lead_node_numbers lead) m
+  pub destination_within : (destination : Destination) → IsLiveQueryDestination t keys u destination → (m : ℕ)
+      → Contains (destination_node_numbers destination) m
       → m < length keys
-  lead_within Refused h m i = absurd (no_member m i)
-  lead_within Nowhere h m i = absurd (no_member m i)
-  lead_within (One n) h m i = h.2 m i
-  lead_within (Two n p) h m i = h.2 m i
+  destination_within Refused h m i = absurd (no_member m i)
+  destination_within Nowhere h m i = absurd (no_member m i)
+  destination_within (One n) h m i = h.2 m i
+  destination_within (Two n p) h m i = h.2 m i
 
   is_there : (m n : ℕ) → m ≡ n → is_entry_present t (node_key_at keys n) ≡ true
       → is_entry_present t (node_key_at keys m) ≡ true
   is_there m n e p = subst (λ (x : ℕ). is_entry_present t (node_key_at keys x) ≡ true) (sym e) p
 
   -- targets have entries
-  pub lead_present : (lead : Lead) → IsLiveQueryLead t keys u lead → (m : ℕ) → Contains (lead_node_numbers lead) m
+  pub destination_present : (destination : Destination) → IsLiveQueryDestination t keys u destination → (m : ℕ)
+      → Contains (destination_node_numbers destination) m
       → is_entry_present t (node_key_at keys m) ≡ true
-  lead_present Refused h m i = absurd (no_member m i)
-  lead_present Nowhere h m i = absurd (no_member m i)
-  lead_present (One n) h m i = elim (member_cases m n [] i) [
+  destination_present Refused h m i = absurd (no_member m i)
+  destination_present Nowhere h m i = absurd (no_member m i)
+  destination_present (One n) h m i = elim (member_cases m n [] i) [
     | inl e ↦ is_there m n e (only_node_target_is_present t u (node_key_at keys n) h.1)
     | inr j ↦ absurd (no_member m j)
   ]
-  lead_present (Two n p) h m i = elim (member_cases m n (p ∷ []) i) [
+  destination_present (Two n p) h m i = elim (member_cases m n (p ∷ []) i) [
     | inl e ↦ is_there m n e (first_node_target_is_present t u (node_key_at keys n) (node_key_at keys p) h.1)
     | inr j ↦ elim (member_cases m p [] j) [
       | inl e ↦ is_there m p e (second_node_target_is_present t u (node_key_at keys n) (node_key_at keys p) h.1)
@@ -65,8 +69,9 @@ module _ (t : EntryTable) (keys : List Key) (u : WordUse) where
   abbrev Put : (old new : List ℕ) → WordSteps → Type 0
   Put old new s = AreNodeLooksAdded t keys u (s.first ∷ s.second ∷ []) old new
 
-  pub steps_looked : (old new : List ℕ) (lead : Lead) (s : WordSteps) → IsNodeLead t keys u old new lead
-      → Some s ≡ node_steps_of_lead lead
+  pub steps_looked : (old new : List ℕ) (destination : Destination) (s : WordSteps)
+      → IsNodeDestination t keys u old new destination
+      → Some s ≡ node_steps_of_destination destination
       → AreNodeLooksAdded t keys u (s.first ∷ s.second ∷ []) old new
   steps_looked old new Refused s h e = cc
   steps_looked old new Nowhere s h e = cc
@@ -84,9 +89,9 @@ module _ (t : EntryTable) (l : NodeLists) (before list : List ℕ) (ends : List 
   abbrev Written : WordSteps → Type 0
   Written s = AreExplorationSteps t l before list ends (u ∷ []) (s.first ∷ s.second ∷ [])
 
-  pub steps_written : (lead : Lead) (s : WordSteps) → IsLiveQueryLead t l.keys u lead
-      → ((m : ℕ) → Contains (lead_node_numbers lead) m → IsKnownToExploration l before list m)
-      → Some s ≡ node_steps_of_lead lead
+  pub steps_written : (destination : Destination) (s : WordSteps) → IsLiveQueryDestination t l.keys u destination
+      → ((m : ℕ) → Contains (destination_node_numbers destination) m → IsKnownToExploration l before list m)
+      → Some s ≡ node_steps_of_destination destination
       → AreExplorationSteps t l before list ends (u ∷ []) (s.first ∷ s.second ∷ [])
   steps_written Refused s h known e = cc
   steps_written Nowhere s h known e = cc
@@ -102,9 +107,10 @@ module _ (t : EntryTable) (l : NodeLists) (before list : List ℕ) (ends : List 
       (known m (member_later m n (m ∷ []) (member_first m m [] refl))))
 
   -- the steps of a word that leads nowhere
-  pub nowhere_written : (more : List DeadEnd) (lead : Lead) (x y : Step) → IsLiveQueryLead t l.keys u lead
-      → None ≡ node_steps_of_lead lead
-      → more ≡ ends ++ record { text = u.text; is_refused = is_refused_node_lead lead } ∷ []
+  pub nowhere_written : (more : List DeadEnd) (destination : Destination) (x y : Step)
+      → IsLiveQueryDestination t l.keys u destination
+      → None ≡ node_steps_of_destination destination
+      → more ≡ ends ++ record { text = u.text; is_refused = is_refused_node_destination destination } ∷ []
       → x ≡ step.Nowhere (length ends) → y ≡ step.Nowhere (length ends)
       → AreExplorationSteps t l before list more (u ∷ []) (x ∷ y ∷ [])
   nowhere_written more Refused x y h none e p q = refused_written t l before list u ends more x y h e p q

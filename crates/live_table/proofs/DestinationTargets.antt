@@ -2,10 +2,10 @@
 use Rattle.std.proofs.Common.{◌≡◌, ◌++◌, ◌∷◌, [], ℕ, List, cond, refl, sym, ◌∙◌, subst, inl, inr, Contains}
 use Rattle.std.proofs.lemmas.Bool.{cases_Bool, cond-false, cond-true}
 use Rattle.name_walk.specs.Faults.{is_on_path}
-use Rattle.live_table.specs.declared.word_targets.Lead.{Lead}
-use Rattle.live_table.specs.declared.word_targets.Lead.TheVariants.{One, Two}
+use Rattle.live_table.specs.declared.word_targets.Destination.{Destination}
+use Rattle.live_table.specs.declared.word_targets.Destination.TheVariants.{One, Two}
 use Rattle.live_table.specs.Exploration.{IsExplorationGrowth, IsKnownToExploration}
-use Rattle.live_table.specs.WordTargets.{lead_node_numbers}
+use Rattle.live_table.specs.WordTargets.{destination_node_numbers}
 use Rattle.live_table.specs.TableContents.{NodeLists}
 use Rattle.live_table.proofs.AddedNames.{appending_is_exploration_growth, exploration_growth_keeps_members}
 use Rattle.general_lemmas.proofs.Members.{no_member, member_first, member_later, member_cases}
@@ -21,19 +21,24 @@ agenda_put_keeps_numbers list there n e = elim (cases_Bool (is_on_path list n)) 
 ]
 
 -- the number of the only target of a word
-pub only_lead_node_number : (lead : Lead) (n : ℕ) → lead ≡ One n → Contains (lead_node_numbers lead) n
-only_lead_node_number lead n e = subst (λ (x : Lead). Contains (lead_node_numbers x) n) (sym e)
+pub only_destination_node_number : (destination : Destination) (n : ℕ) → destination ≡ One n
+    → Contains (destination_node_numbers destination) n
+only_destination_node_number destination n e = subst (λ (x : Destination). Contains
+    (destination_node_numbers x) n) (sym e)
     (member_first n n [] refl)
 
 -- the number of the first of two targets
-pub first_lead_node_number : (lead : Lead) (n m : ℕ) → lead ≡ Two n m → Contains (lead_node_numbers lead) n
-first_lead_node_number lead n m e = subst (λ (x : Lead). Contains (lead_node_numbers x) n) (sym e)
+pub first_destination_node_number : (destination : Destination) (n m : ℕ) → destination ≡ Two n m
+    → Contains (destination_node_numbers destination) n
+first_destination_node_number destination n m e = subst (λ (x : Destination). Contains
+    (destination_node_numbers x) n) (sym e)
     (member_first n n (m ∷ []) refl)
 
 -- the number of the second of two targets
-pub second_lead_node_number : (lead : Lead) (n m : ℕ) → lead ≡ Two n m → Contains (lead_node_numbers lead) m
-second_lead_node_number lead n m e =
-    subst (λ (x : Lead). Contains (lead_node_numbers x) m) (sym e)
+pub second_destination_node_number : (destination : Destination) (n m : ℕ) → destination ≡ Two n m
+    → Contains (destination_node_numbers destination) m
+second_destination_node_number destination n m e =
+    subst (λ (x : Destination). Contains (destination_node_numbers x) m) (sym e)
     (member_later m n (m ∷ []) (member_first m m [] refl))
 
 -- known numbers stay known when numbers are added to the agenda
@@ -46,12 +51,12 @@ known_stays_in_agenda_growth l before list there n more (inr (inr i)) =
     inr (inr (exploration_growth_keeps_members list there n more i))
 
 -- both of two targets are known once both are on the agenda
-pub two_targets_on_agenda_are_known : (l : NodeLists) (before list there : List ℕ) (lead : Lead) (n p : ℕ)
-    → lead ≡ Two n p → IsExplorationGrowth list there
+pub two_targets_on_agenda_are_known : (l : NodeLists) (before list there : List ℕ) (destination : Destination) (n p : ℕ)
+    → destination ≡ Two n p → IsExplorationGrowth list there
     → IsKnownToExploration l before list n → IsKnownToExploration l before there p
-    → (m : ℕ) → Contains (lead_node_numbers lead) m → IsKnownToExploration l before there m
-two_targets_on_agenda_are_known l before list there lead n p e more a b m i =
-    both (subst (λ (x : Lead). Contains (lead_node_numbers x) m) e i)
+    → (m : ℕ) → Contains (destination_node_numbers destination) m → IsKnownToExploration l before there m
+two_targets_on_agenda_are_known l before list there destination n p e more a b m i =
+    both (subst (λ (x : Destination). Contains (destination_node_numbers x) m) e i)
   where
     both : Contains (n ∷ p ∷ []) m → IsKnownToExploration l before there m
     both j = elim (member_cases m n (p ∷ []) j) [
