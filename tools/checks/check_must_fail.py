@@ -13,7 +13,6 @@ the edit, the function, and the part of the function that has to refuse the edit
     requires CALLEE [CLAUSE]        a clause that it has to meet when it calls CALLEE
     invariant                       the invariant of a struct
     loop LABEL                      an invariant or the measure of a loop
-    NAME                            an example of a law
     FILE NAME                       a lemma of proofs/FILE.antt, which its proof cites
 
 An edit that passed is not tried again until a file that it depends on changes: `~/.cache/units/must_fail` (or below
