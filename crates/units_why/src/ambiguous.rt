@@ -13,7 +13,7 @@ use quantity::Quantity;
 use std::alloc::{AllocError, Global};
 use std::sync::ledger::Ledger;
 use units_io::Text;
-use word_readings::{Reading, word_readings};
+use value_sources::{Reading, word_readings};
 
 // A word of a definition with two or more readings.
 struct AmbiguousWord {

@@ -14,7 +14,7 @@ use reply::Options;
 use std::alloc::AllocError;
 use std::sync::ledger::Ledger;
 use units_io::Text;
-use word_readings::{Reading, word_readings};
+use value_sources::{Reading, word_readings};
 
 /// Appends a finding for each unit at the places `keys` that hides a reading with a different value.
 pub(crate) fn put_captures<L: Ledger>(

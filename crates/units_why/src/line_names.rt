@@ -6,10 +6,10 @@ ghost use Rattle.units_io.specs.FileMap.{longest_file};
 use crate::shadows::has_one_line_per_key;
 use deck::Deck;
 use def_lines::{LineKind, classify};
-use line_files::{LineFiles, LineFilesFault, find_line_files};
 use memchr::memchr_iter;
 use std::alloc::{AllocError, Global};
 use units_io::{FetchFault, Files, Text};
+use value_sources::{LineFiles, LineFilesFault, find_line_files};
 
 /// The file of each line of a deck.
 pub(crate) enum LineNames {

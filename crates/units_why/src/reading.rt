@@ -9,8 +9,7 @@ use quantity::Quantity;
 use std::alloc::{AllocError, Global};
 use std::sync::ledger::Ledger;
 use units_io::Text;
-use value_sources::value_tree;
-use word_readings::Reading;
+use value_sources::{Reading, value_tree};
 
 // Returns the expression for a reading, or `None` if its prefix is absent.
 fn reading_tree(alloc: Global, deck: &Deck, reading: &Reading) -> Result<Option<Tree>, AllocError> {

@@ -10,7 +10,7 @@ use expr_tree::{WordKind, WordUse};
 use std::alloc::{AllocError, Global};
 use std::sync::ledger::Ledger;
 use units_io::Text;
-use word_readings::{Reading, word_readings};
+use value_sources::{Reading, word_readings};
 
 // For each line of a deck, whether another definition uses the definition on it.
 struct Uses {

@@ -1,5 +1,9 @@
+pub mod FirstReading
 pub mod FunctionWords
 pub mod Leads
+pub mod LineFileNaming
+pub mod LineFilePassing
+pub mod LinesInFiles
 pub mod LoopSteps
 pub mod Marking
 pub mod Members
@@ -7,8 +11,10 @@ pub mod Once
 pub mod OneList
 pub mod OperandFaults
 pub mod Placing
+pub mod PresentReadings
 pub mod Reached
 pub mod Reversing
+pub mod SameFileLines
 pub mod StepFaults
 pub mod Stored
 pub mod Values

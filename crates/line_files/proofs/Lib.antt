@@ -1,4 +1,0 @@
-mod InFiles
-mod Naming
-mod Passing
-mod SameLines

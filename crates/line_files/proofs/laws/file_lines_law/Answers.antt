@@ -1,9 +1,0 @@
-use Rattle.line_files.proofs.SameLines.{file_lines_are_same}
-use Rattle.line_files.proofs.InFiles.{each_in_file}
-use Rattle.line_files.proofs.laws.file_lines_law.Goals as goal
-
-pub returns : goal.returns
-returns c = record {
-  lines = λ files name bytes. file_lines_are_same files name bytes;
-  files = λ files name bytes e. each_in_file files name bytes e;
-}

@@ -1,4 +1,0 @@
-pub mod FileLines
-pub mod Laws
-pub mod Names
-pub mod Steps

@@ -1,8 +1,0 @@
-//! Laws of the lines of files.
-
-ghost use Rattle.line_files.specs.Laws.{FileLinesLaw};
-
-/// The lines of a file and of the files that it includes are those of its deck, and each of them is in its file.
-pub fn file_lines_law()
-    ensures { FileLinesLaw }
-{}
