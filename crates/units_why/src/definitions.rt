@@ -48,12 +48,16 @@ pub(crate) fn load<F: Files, L: Ledger>(
     Ok(Definitions {
         evaluator: Evaluator {
             alloc,
-            table: LiveTable::new(alloc, deck),
+            table: table_in_box(alloc, deck)?,
             steps,
         },
         names,
         are_built_in: request.file.is_none(),
     })
+}
+
+fn table_in_box(alloc: Global, deck: Deck) -> Result<Box<LiveTable>, AllocError> {
+    Ok(Box::new(alloc, LiveTable::new(alloc, deck))?)
 }
 
 // A deck, and the files of its lines.

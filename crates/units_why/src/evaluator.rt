@@ -16,7 +16,8 @@ use value_sources::{FailedStep, failed_step};
 /// The table of a run, the memory of its queries, and the count of their steps.
 pub(crate) struct Evaluator<L: Ledger> {
     pub(crate) alloc: Global,
-    pub(crate) table: LiveTable,
+    // In a box, since a function that reaches a field of an evaluator is proved with the layout of all its fields.
+    pub(crate) table: Box<LiveTable>,
     pub(crate) steps: Steps<L>,
 }
 
@@ -62,7 +63,7 @@ impl<L: Ledger> Evaluator<L> {
 
     /// Returns the step of an expression without a value, if there is one. Fails only if memory runs out.
     pub(crate) fn failed_step(&mut self, tree: &Tree) -> Result<Option<FailedStep>, AllocError> {
-        failed_step(self.alloc, &mut self.table, tree, &mut self.steps)
+        failed_step(self.alloc, &mut *self.table, tree, &mut self.steps)
     }
 
     /// Appends the line of a check report for the key whose line in force is at `place`, if the key has a fault.
@@ -76,7 +77,7 @@ impl<L: Ledger> Evaluator<L> {
     {
         // The cached outcomes in the table are correct.
         self.table.outcomes_are_right();
-        let table = &mut self.table;
+        let table = &mut *self.table;
         let steps = &mut self.steps;
         let places = [place];
         let check = KeyCheck {

@@ -61,7 +61,7 @@ fn all_findings<F: Files, L: Ledger>(
 {
     let evaluator = &mut definitions.evaluator;
     let alloc = evaluator.alloc;
-    let keys = check_places(alloc, &mut evaluator.table, &mut evaluator.steps)?;
+    let keys = check_places(alloc, &mut *evaluator.table, &mut evaluator.steps)?;
     let mut findings = Vec::new(alloc);
     put_faults(evaluator, options, keys.as_slice(), &mut findings)?;
     put_unmet(definitions, options, keys.as_slice(), files, &mut findings)?;

@@ -114,7 +114,7 @@ fn put_with_outcome<L: Ledger>(
         return Ok(());
     };
     let alloc = definitions.evaluator.alloc;
-    if let Some(value) = cached_value(alloc, &definitions.evaluator.table, key)? {
+    if let Some(value) = cached_value(alloc, &*definitions.evaluator.table, key)? {
         let view = view.with_outcome(LentOutcome::Value(value));
         put_row(out, Places::of(definitions), style, view);
         return Ok(());

@@ -77,7 +77,7 @@ fn reply_to<L: Ledger>(
     requires { AreReplyOptionsPrintable options.now }
 {
     let alloc = evaluator.alloc;
-    let table = &mut evaluator.table;
+    let table = &mut *evaluator.table;
     let steps = &mut evaluator.steps;
     if to.is_empty() {
         return definition_reply(alloc, table, options, from, steps);
