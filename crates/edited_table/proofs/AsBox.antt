@@ -8,8 +8,8 @@ use Rattle.std_heap.specs.contracts.GlobalAllocator.TheImpl.{ghosts, dict}
 use Rattle.std_heap.proofs.Global.TheLaws as heap
 use Rattle.edited_table.specs.contracts.edited_table.EditedTable as EditedTable
 use Rattle.edited_table.proofs.edited_table.EditedTable.TheLaws as edited_table
-use Rattle.table_handle.specs.contracts.parts.Parts as Parts
-use Rattle.table_handle.specs.contracts.handle.Handle as Handle
+use Rattle.edited_table.specs.contracts.parts.Parts as Parts
+use Rattle.edited_table.specs.contracts.handle.Handle as Handle
 
 abbrev pub E : Bx
 E = record {

@@ -1,1 +1,2 @@
 mod AllRecords
+pub mod AsBox

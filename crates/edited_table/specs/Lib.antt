@@ -1,1 +1,2 @@
 pub mod TableValue
+pub mod HandleResources

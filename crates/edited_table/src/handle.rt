@@ -1,11 +1,11 @@
-//! An edited table behind a nullable pointer.
+//! A nullable pointer to an edited table.
 
 ghost use Rattle.std.specs.Prelude.{◌≡◌, IfOk, Option, None, Some};
 ghost use Rattle.edited_table.specs.TableValue.{EditedTableView};
-ghost use Rattle.table_handle.specs.HandleResources.{coded_handle_table, handle_owns};
+ghost use Rattle.edited_table.specs.HandleResources.{coded_handle_table, handle_owns};
 
+use crate::edited_table::EditedTable;
 use crate::parts::Parts;
-use edited_table::EditedTable;
 use std::alloc::Global;
 use std::marker::Model;
 use std::mem;

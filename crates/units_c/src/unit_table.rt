@@ -3,9 +3,8 @@
 ghost use Rattle.std.specs.Prelude.{◌≡◌, ◌==◌, None, Some, true, false, is_some, option_map};
 ghost use Rattle.units_c.specs.Tables.{c_table_open_mark};
 
-use edited_table::EditedTable;
+use edited_table::{EditedTable, Handle};
 use std::alloc::Global;
-use table_handle::Handle;
 
 // The value of `state` in an open table.
 const OPEN: u64 = 1_970_170_228;

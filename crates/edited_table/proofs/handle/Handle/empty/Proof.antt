@@ -33,11 +33,11 @@ use denote.Triple.Spec.{triple_of}
 use denote.Triple.Table.{entered}
 use denote.Triple.Walked.{says, Stays, stay_dropped, walk_of, ends_at, Goes-dropped, walk_Meets}
 use Rattle.std_alloc.proofs.BoxSteps.Form.{P, owning, box_ty}
-use Rattle.table_handle.proofs.AsBox.{E}
-use Rattle.table_handle.specs.contracts.handle.Handle.empty as F
-use Rattle.table_handle.specs.contracts.handle.Handle.empty.Key.{name as #self}
-use Rattle.table_handle.proofs.handle.Handle.empty.Statement as stated
-use Rattle.table_handle.proofs.handle.Handle.empty.Code as code
+use Rattle.edited_table.proofs.AsBox.{E}
+use Rattle.edited_table.specs.contracts.handle.Handle.empty as F
+use Rattle.edited_table.specs.contracts.handle.Handle.empty.Key.{name as #self}
+use Rattle.edited_table.proofs.handle.Handle.empty.Statement as stated
+use Rattle.edited_table.proofs.handle.Handle.empty.Code as code
 
 -- the machine value of a null handle
 abbrev null_word : Val → Val

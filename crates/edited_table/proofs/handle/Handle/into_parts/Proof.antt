@@ -26,12 +26,12 @@ use denote.Triple.Table.{entered}
 use denote.Triple.Walked.{says, Stays, stay_dropped, walk_of, ends_at, Goes-dropped, walk_Meets}
 use Rattle.std_alloc.proofs.BoxSteps.Form.{X, D, B, word, box_typed}
 use Rattle.std_alloc.proofs.BoxSteps.Steps.{box_out, box_in}
-use Rattle.table_handle.specs.contracts.handle.Handle as Handle
-use Rattle.table_handle.proofs.AsBox.{E, FromHandle as From}
-use Rattle.table_handle.specs.contracts.handle.Handle.into_parts as F
-use Rattle.table_handle.specs.contracts.handle.Handle.into_parts.Key.{name as #self}
-use Rattle.table_handle.proofs.handle.Handle.into_parts.Statement as stated
-use Rattle.table_handle.proofs.handle.Handle.into_parts.Code as code
+use Rattle.edited_table.specs.contracts.handle.Handle as Handle
+use Rattle.edited_table.proofs.AsBox.{E, FromHandle as From}
+use Rattle.edited_table.specs.contracts.handle.Handle.into_parts as F
+use Rattle.edited_table.specs.contracts.handle.Handle.into_parts.Key.{name as #self}
+use Rattle.edited_table.proofs.handle.Handle.into_parts.Statement as stated
+use Rattle.edited_table.proofs.handle.Handle.into_parts.Code as code
 
 -- an option that is not `None` is `Some x` for an `x`
 pub present : {A : Type 0} (o : Option A) → (o ≡ None → ⊥) → (x : A) × (o ≡ Some x)

@@ -25,11 +25,11 @@ use denote.Triple.Table.{entered}
 use denote.Triple.Walked.{says, Stays, stay_dropped, walk_of, ends_at, Goes-dropped, walk_Meets}
 use Rattle.std_alloc.proofs.BoxSteps.Form.{D, B, word, box_typed}
 use Rattle.std_alloc.proofs.BoxSteps.Steps.{box_out, box_in}
-use Rattle.table_handle.proofs.AsBox.{E, FromParts as From}
-use Rattle.table_handle.specs.contracts.handle.Handle.of_parts as F
-use Rattle.table_handle.specs.contracts.handle.Handle.of_parts.Key.{name as #self}
-use Rattle.table_handle.proofs.handle.Handle.of_parts.Statement as stated
-use Rattle.table_handle.proofs.handle.Handle.of_parts.Code as code
+use Rattle.edited_table.proofs.AsBox.{E, FromParts as From}
+use Rattle.edited_table.specs.contracts.handle.Handle.of_parts as F
+use Rattle.edited_table.specs.contracts.handle.Handle.of_parts.Key.{name as #self}
+use Rattle.edited_table.proofs.handle.Handle.of_parts.Statement as stated
+use Rattle.edited_table.proofs.handle.Handle.of_parts.Code as code
 
 abbrev stayed : Stays (F.ended).signature.params (F.ended).kept
 stayed = (stay_dropped From yes, tt)
