@@ -1,5 +1,5 @@
 #!/usr/bin/env bash
-# Times the program of crates/test_decks on three inputs: the definitions of GNU units, if installed; decks of 25,000,
+# Times the program of crates/test_calls on three inputs: the definitions of GNU units, if installed; decks of 25,000,
 # 50,000 and 100,000 lines `u_i C u_j`, which are loaded, made by as many calls of `define`, switched to another locale,
 # and lose and gain lines; and a file of 16 MiB of line feeds that includes itself. Prints the lowest time of a few
 # runs, of the whole process or of the calls alone, by the clock and by the processor, and the memory.
@@ -7,7 +7,7 @@
 # DEFINITIONS are those of Debian's package units unless they are given.
 set -u
 root=$(cd "$(dirname "${BASH_SOURCE[0]}")/.." && pwd)
-program=$("$root/tools/built.sh" test_decks) || exit
+program=$("$root/tools/built.sh" test_calls) || exit
 definitions=$(realpath -ms -- "${1:-/usr/share/units/definitions.units}") || exit
 PYTHONPATH="$root/bench" PYTHONDONTWRITEBYTECODE=1 exec python3 - "$program" "$definitions" <<'PYTHON'
 import functools

@@ -1,11 +1,11 @@
 #!/usr/bin/env bash
-# Times the program of crates/test_values, which splits a definition file into lines, parses each definition and list,
+# Times the program of crates/test_calls, which splits a definition file into lines, parses each definition and list,
 # and counts those that are refused. The inputs are 16 MiB of several kinds of lines, the definitions of GNU units, if
 # installed, and single lines of 1 and 2 MiB. Prints the seconds by the clock and by the processor, the lower of two
 # runs, the peak memory, and the last line of the report.
 set -u
 root=$(cd "$(dirname "${BASH_SOURCE[0]}")/.." && pwd)
-program=$("$root/tools/built.sh" test_values) || exit
+program=$("$root/tools/built.sh" test_calls) || exit
 exec python3 - "$program" <<'PYTHON'
 import os
 import subprocess

@@ -1,9 +1,9 @@
 #!/usr/bin/env bash
-# Times the program of crates/test_values on long texts of 4, 8 and 16 MiB. It parses a text and prints `tree` or the
+# Times the program of crates/test_calls on long texts of 4, 8 and 16 MiB. It parses a text and prints `tree` or the
 # fault. Prints the seconds, the lower of two runs, the peak memory, and the answer.
 set -u
 root=$(cd "$(dirname "${BASH_SOURCE[0]}")/.." && pwd)
-program=$("$root/tools/built.sh" test_values) || exit
+program=$("$root/tools/built.sh" test_calls) || exit
 folder=$(mktemp -d)
 trap 'rm -rf "$folder"' EXIT
 

@@ -1,5 +1,5 @@
 #!/usr/bin/env bash
-# Times the program of crates/test_tables. Over a chain of 60,000 names, each a multiple of the one before: the first
+# Times the program of crates/test_calls. Over a chain of 60,000 names, each a multiple of the one before: the first
 # query of the last name, later queries, queries of all names in both orders, and the memory of a name; if valgrind is
 # installed, also the instructions and cache misses of the first query, which do not depend on the load. Over a ring of
 # as many names: a query, which ends in a cycle of all. Over the definitions of GNU units, if installed: the values of
@@ -8,7 +8,7 @@
 # DEFINITIONS are those of Debian's package units unless they are given.
 set -u
 root=$(cd "$(dirname "${BASH_SOURCE[0]}")/.." && pwd)
-program=$("$root/tools/built.sh" test_tables) || exit
+program=$("$root/tools/built.sh" test_calls) || exit
 definitions=$(realpath -ms -- "${1:-/usr/share/units/definitions.units}") || exit
 PYTHONPATH="$root/bench" PYTHONDONTWRITEBYTECODE=1 exec python3 - "$program" "$definitions" <<'PYTHON'
 import functools

@@ -1,11 +1,11 @@
 #!/usr/bin/env bash
-# Compares the program of crates/test_values with Python's fractions on the same 200,000 sums and products of small
+# Compares the program of crates/test_calls with Python's fractions on the same 200,000 sums and products of small
 # numbers, of numbers of one word, and of numbers of two words that share a factor. Both read a call and write an answer
 # in each line. Prints the seconds of the processor, the lowest of three runs, in parentheses those to read and compare
 # the same numbers, and whether all answers that do not overflow are equal.
 set -u
 root=$(cd "$(dirname "${BASH_SOURCE[0]}")/.." && pwd)
-program=$("$root/tools/built.sh" test_values) || exit
+program=$("$root/tools/built.sh" test_calls) || exit
 folder=$(mktemp -d)
 trap 'rm -rf "$folder"' EXIT
 

@@ -1,11 +1,11 @@
 #!/usr/bin/env bash
-# Compares the program of crates/test_values with Python's fractions and a dict of exponents on the same 100,000 calls
+# Compares the program of crates/test_calls with Python's fractions and a dict of exponents on the same 100,000 calls
 # of each kind: products and quotients of quantities of one, two and six names, sums, and powers. Both read a call and
 # write an answer in each line. Prints the seconds of the processor, the lowest of three runs, in parentheses those to
 # read and compare the same quantities, and whether the answers are equal.
 set -u
 root=$(cd "$(dirname "${BASH_SOURCE[0]}")/.." && pwd)
-program=$("$root/tools/built.sh" test_values) || exit
+program=$("$root/tools/built.sh" test_calls) || exit
 folder=$(mktemp -d)
 trap 'rm -rf "$folder"' EXIT
 

@@ -1,5 +1,5 @@
 #!/usr/bin/env bash
-# Times reports of the program of crates/test_tables over 20,000 names, each a multiple of the one at half its number:
+# Times reports of the program of crates/test_calls over 20,000 names, each a multiple of the one at half its number:
 # checks, searches and lists of conforming units, the first and later ones, and a check in which each name depends on an
 # unknown one; also a check of the definitions of GNU units, if installed. Prints the lowest of a few runs, less the
 # time of the load.
@@ -7,7 +7,7 @@
 # DEFINITIONS are those of Debian's package units unless they are given.
 set -u
 root=$(cd "$(dirname "${BASH_SOURCE[0]}")/.." && pwd)
-program=$("$root/tools/built.sh" test_tables) || exit
+program=$("$root/tools/built.sh" test_calls) || exit
 definitions=$(realpath -ms -- "${1:-/usr/share/units/definitions.units}") || exit
 PYTHONPATH="$root/bench" PYTHONDONTWRITEBYTECODE=1 exec python3 - "$program" "$definitions" <<'PYTHON'
 import functools

@@ -1,11 +1,11 @@
 #!/usr/bin/env bash
-# Times the program of crates/test_tables over decks of 100,000 lines `u_i C u_j`: 30,000 lines are defined, undone
+# Times the program of crates/test_calls over decks of 100,000 lines `u_i C u_j`: 30,000 lines are defined, undone
 # one by one and redone one by one; a dropped line, another locale and an appended file of one line are each undone and
 # redone. Prints the lowest of a few runs, less the time of the load.
 #   bench/undo.sh
 set -u
 root=$(cd "$(dirname "${BASH_SOURCE[0]}")/.." && pwd)
-program=$("$root/tools/built.sh" test_tables) || exit
+program=$("$root/tools/built.sh" test_calls) || exit
 PYTHONPATH="$root/bench" PYTHONDONTWRITEBYTECODE=1 exec python3 - "$program" <<'PYTHON'
 import functools
 import os

@@ -1,4 +1,4 @@
-Decks, as `test_decks decks` answers calls on them. `load FILE` and `text FILE` give a deck; `text` reads this file
+Decks, as `test_calls decks` answers calls on them. `load FILE` and `text FILE` give a deck; `text` reads this file
 alone, and its includes count as absent. `define LINE`, `drop KEY`, `append FILE`, `switch` and
 `splice AT CUT LINE;LINE..` edit it and print the keys whose entries differ; `back` makes the inverse of the last
 splice. `locale L` and `set VAR VALUE` are settings for later loads and edits. A line is shown with its number, and with
@@ -14,7 +14,7 @@ is.
   $ printf 'c 3 m\n' > sub/c.units
   $ printf 'wrong 1 m\n' > c.units
   $ printf 'd 4 m\n!include ../c.units\n!include /no/such.units\n' > sub/deep/d.units
-  $ test_decks decks <<'END'
+  $ test_calls decks <<'END'
   > load a.units
   > lines
   > notices
@@ -37,7 +37,7 @@ is.
 
 The same files, if only the first one is read.
 
-  $ test_decks decks <<'END'
+  $ test_calls decks <<'END'
   > text a.units
   > lines
   > notices
@@ -51,7 +51,7 @@ Absent files and files that are too long. A file of the greatest length is read.
   $ head -c 16777216 /dev/zero | tr '\0' '\n' > longest.units
   $ head -c 16777217 /dev/zero | tr '\0' '\n' > long.units
   $ printf 'm !\n!include none.units\n!include long.units\n!include longest.units\n a m\n' > e.units
-  $ test_decks decks <<'END'
+  $ test_calls decks <<'END'
   > load none.units
   > lines
   > load long.units
@@ -85,7 +85,7 @@ exist.
 
   $ for i in $(seq 0 15); do printf 'u_%s0 !\n!include in_%s.units\n' $i $((i + 1)) > in_$i.units; done
   $ printf 'u_160 !\n' > in_16.units
-  $ test_decks decks <<'END'
+  $ test_calls decks <<'END'
   > load in_0.units
   > count
   > notices
@@ -98,7 +98,7 @@ exist.
   ok
   16 units, 0 prefixes, 0 functions, 0 lists, 31 lines, 0 notices
   $ printf '!include in_17.units\nu_160 !\n' > in_16.units
-  $ test_decks decks <<'END'
+  $ test_calls decks <<'END'
   > load in_0.units
   > count
   > notices
@@ -118,7 +118,7 @@ exist.
 A file that includes itself is read 17 times.
 
   $ printf 'm !\n!include self.units\n!endvar\n' > self.units
-  $ test_decks decks <<'END'
+  $ test_calls decks <<'END'
   > load self.units
   > count
   > notices
@@ -131,7 +131,7 @@ If a file cannot be read, the load or the append fails and leaves the deck as it
 
   $ printf 'm !\n!include sub\n' > f.units
   $ printf 'n !\n!include f.units\n' > g.units
-  $ test_decks decks <<'END'
+  $ test_calls decks <<'END'
   > load sub
   > load f.units
   > lines
@@ -183,7 +183,7 @@ them readable, are appended.
   >   cp -r whole cut
   >   rm "cut/$file"
   >   mkdir "cut/$file"
-  >   printf '%s\n' 'load cut/a' 'load whole/d' snapshot 'append cut/a' compare 'append whole/a' count | test_decks decks
+  >   printf '%s\n' 'load cut/a' 'load whole/d' snapshot 'append cut/a' compare 'append whole/a' count | test_calls decks
   > done
   read failed
   ok
@@ -217,7 +217,7 @@ them readable, are appended.
 Stray ends, and blocks that are closed in the wrong order.
 
   $ printf '!endvar\nm !\n!locale en_US\n!endvar\na m\n!utf8\n!endlocale\n!endutf8\n!endlocale\n!endlocale\n' > h.units
-  $ test_decks decks <<'END'
+  $ test_calls decks <<'END'
   > load h.units
   > lines
   > notices
@@ -233,7 +233,7 @@ first, with the numbers of the lines that open the blocks. The notices are in th
 
   $ printf '!locale en_US\n!var V x\nv 1 m\n!endvar\n!varnot V x\n\n!utf8\ni 2 m\n' > open.units
   $ printf 'm !\n!locale en_GB\n!include open.units\n!endutf8\nno 2 m\n' > j.units
-  $ test_decks decks <<'END'
+  $ test_calls decks <<'END'
   > load j.units
   > lines
   > notices
@@ -269,7 +269,7 @@ leaves a `!var` block open too.
 
   $ printf '!utf8\n!varnot V x\n!var V x\na 1 m\n!locale en_US\n' > four.units
   $ printf 'm !\n!var V x\n!include four.units\nb 1 m\n' > five.units
-  $ test_decks decks <<'END'
+  $ test_calls decks <<'END'
   > load four.units
   > lines
   > notices
@@ -294,7 +294,7 @@ A file that ends within a continued line, and one that ends within a continued i
 
   $ printf 'm !\nft 12 \\\n  in\\' > k.units
   $ printf 'in m\n!include \\\n k.units \\\n' > l.units
-  $ test_decks decks <<'END'
+  $ test_calls decks <<'END'
   > load k.units
   > lines
   > load l.units
@@ -310,7 +310,7 @@ A file that ends within a continued line, and one that ends within a continued i
 Refused lines stay in the deck and have no effect.
 
   $ printf 'm !\nh- \n1a m\n!nosuch\n!var V\n!include\n!locale a b\na 3 *\nt[m] 1 2\nf() \n a 2 m \n\na\t5  m\n' > n.units
-  $ test_decks decks <<'END'
+  $ test_calls decks <<'END'
   > load n.units
   > lines
   > notices
@@ -337,7 +337,7 @@ A variable is compared with a list of values, which blanks or tabs separate. Eac
 that is not set.
 
   $ printf 'm !\n!var V x y\na 1 m\n!endvar\n!var V y\tz\nb 1 m\n!endvar\n!varnot V x\nc_0 1 m\n!endvar\n!var V xy\nd 1 m\n!endvar\n' > o.units
-  $ test_decks decks <<'END'
+  $ test_calls decks <<'END'
   > load o.units
   > keys
   > set V x
@@ -367,7 +367,7 @@ hold sets nothing.
 
   $ printf 'm !\n!set V x\n!set V y\n!var V x\na 1 m\n!endvar\n!var V y\na 2 m\n!endvar\n' > p.units
   $ printf 'm !\n!locale de_DE\n!set V x\n!endlocale\n!var V x\na 1 m\n!endvar\n!set V y z\n!var V y z\na 2 m\n!endvar\n!varnot V y z\na 3 m\n!endvar\n' > q.units
-  $ test_decks decks <<'END'
+  $ test_calls decks <<'END'
   > load p.units
   > entry a
   > set V y
@@ -391,7 +391,7 @@ hold sets nothing.
   changed: none
   2 m
   ok
-  $ test_decks decks <<'END'
+  $ test_calls decks <<'END'
   > load q.units
   > entry a
   > locale de_DE
@@ -409,7 +409,7 @@ sets.
 
   $ printf '!set V x\n!include s.units\n!var W y\na 1 m\n!endvar\n' > r.units
   $ printf '!var V x\nb 1 m\n!set W y\n!endvar\n' > s.units
-  $ test_decks decks <<'END'
+  $ test_calls decks <<'END'
   > load r.units
   > keys
   > load s.units
@@ -429,7 +429,7 @@ sets.
 Messages in force and not in force, one without text and one with blanks.
 
   $ printf '!message hello\n!message\n!locale en_GB\n!message  cheerio \n!endlocale\n!message a  b # c\n!prompt no\n!var V x\n!message x\n!endvar\n!endvar\n' > t.units
-  $ test_decks decks <<'END'
+  $ test_calls decks <<'END'
   > load t.units
   > messages
   > locale en_GB
@@ -452,7 +452,7 @@ Messages in force and not in force, one without text and one with blanks.
 
 The two gallons of the built-in definitions, to and fro. In another locale there is none.
 
-  $ test_decks decks <<END
+  $ test_calls decks <<END
   > text $BUILTIN
   > count
   > notices
@@ -497,7 +497,7 @@ The two gallons of the built-in definitions, to and fro. In another locale there
 definitions. A line is trimmed, and has the number 0. Two entries are equal exactly if their texts are.
 
   $ printf 'm !\na 2 m\n' > u.units
-  $ test_decks decks <<'END'
+  $ test_calls decks <<'END'
   > load u.units
   > define a 2 m
   > define   a 2 m 	
@@ -558,7 +558,7 @@ definitions. A line is trimmed, and has the number 0. Two entries are equal exac
 is not found.
 
   $ printf 'm !\na 2 m\n!locale en_GB\na 3 m\nb 4 m\n!endlocale\na 2 m\na 5 m\n' > v.units
-  $ test_decks decks <<'END'
+  $ test_calls decks <<'END'
   > load v.units
   > drop a
   > place a
@@ -605,7 +605,7 @@ is not found.
 the earlier ones, and a block of the deck does not continue in it.
 
   $ printf 'a 7 m\n!locale en_GB\nb 4 m\n!nosuch\n' > w.units
-  $ test_decks decks <<'END'
+  $ test_calls decks <<'END'
   > load v.units
   > append v.units
   > append w.units
@@ -630,7 +630,7 @@ the earlier ones, and a block of the deck does not continue in it.
 
 A snapshot does not change with the deck.
 
-  $ test_decks decks <<'END'
+  $ test_calls decks <<'END'
   > compare
   > load v.units
   > compare
@@ -678,7 +678,7 @@ A snapshot does not change with the deck.
   different
 
   $ printf 'm !\na 2 m\nb 3 a\nc 5 m\n' > abc.units
-  $ test_decks decks <<'END'
+  $ test_calls decks <<'END'
   > load abc.units
   > snapshot
   > define a 7 m
@@ -715,7 +715,7 @@ A deck has at most 100,000 lines. Blank lines and comments do not count. A refus
   $ (cat most.units; echo '!utf8') > added.units
   $ (cat most.units; printf '!include none.units\n!include sub\n') > order.units
   $ (cat most.units; printf '!include sub\n!include none.units\nm !\n') > fails.units
-  $ test_decks decks <<'END'
+  $ test_calls decks <<'END'
   > load over.units
   > load added.units
   > load order.units
@@ -771,7 +771,7 @@ The texts of a deck's lines, include lines too, have at most 67,108,864 bytes.
   $ message() { printf '!message '; head -c $1 /dev/zero | tr '\0' x; }
   $ message 16777207 > w; message 16777167 > r; message 16777168 > o; message 16777164 > l
   $ for end in r o l; do printf '!include w\n!include w\n!include w\n!include %s\n' $end > all_$end; done
-  $ test_decks decks <<'END'
+  $ test_calls decks <<'END'
   > load all_o
   > load all_r
   > count
@@ -795,7 +795,7 @@ The texts of a deck's lines, include lines too, have at most 67,108,864 bytes.
 Each prefix of the text of the built-in definitions gives a deck. Its notices report an incomplete last line and open
 blocks.
 
-  $ test_decks decks > prefixes <<END
+  $ test_calls decks > prefixes <<END
   > $(for i in $(seq 0 1057); do head -c $i $BUILTIN > p_$i; echo "text p_$i"; echo notices; echo count; echo lines; done)
   > END
   $ grep -c '^ok$' prefixes
@@ -841,7 +841,7 @@ splice is refused if it is out of range, leaves a block open, or ends one that i
   >     done
   >   done
   > }
-  $ (printf 'load x.units\nsnapshot\n'; splices) | test_decks decks > spliced
+  $ (printf 'load x.units\nsnapshot\n'; splices) | test_calls decks > spliced
   $ grep -c '^no such splice$' spliced
   421
   $ grep -c '^changed' spliced
@@ -853,7 +853,7 @@ splice is refused if it is out of range, leaves a block open, or ends one that i
 
 The same splices, which also switch to other settings. Their inverses switch back.
 
-  $ (printf 'load x.units\nsnapshot\nlocale en_GB\nset V y\n'; splices) | test_decks decks > spliced
+  $ (printf 'load x.units\nsnapshot\nlocale en_GB\nset V y\n'; splices) | test_calls decks > spliced
   $ sort spliced | uniq -c | grep -E 'equal|different'
       637 equal
   $ md5sum < spliced
@@ -861,7 +861,7 @@ The same splices, which also switch to other settings. Their inverses switch bac
 
 Lines that are no calls, and calls without a deck.
 
-  $ test_decks decks <<'END'
+  $ test_calls decks <<'END'
   > 
   > nothing
   > load

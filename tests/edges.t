@@ -1,9 +1,9 @@
-Edges from users to keys, by `test_decks edges`. `node` and `spare` answer a number, `users` the users of the edges to a
+Edges from users to keys, by `test_calls edges`. `node` and `spare` answer a number, `users` the users of the edges to a
 key, and `unsettle` the nodes that it clears.
 
 Two nodes lead to node 0, one of them through node 1. `unsettle 0` removes both edges and frees their room.
 
-  $ test_decks edges <<END
+  $ test_calls edges <<END
   > node
   > node
   > node
@@ -37,7 +37,7 @@ Two nodes lead to node 0, one of them through node 1. `unsettle 0` removes both 
 An edge of a node to itself, and two equal edges. Node 2 reaches no other node. A node that was cleared has no edges
 left to remove.
 
-  $ test_decks edges <<END
+  $ test_calls edges <<END
   > node
   > node
   > node
@@ -76,7 +76,7 @@ left to remove.
 
 Only the edges of the cleared node are removed, not those of another user of the same key.
 
-  $ test_decks edges <<END
+  $ test_calls edges <<END
   > node
   > node
   > node
@@ -99,7 +99,7 @@ Only the edges of the cleared node are removed, not those of another user of the
 
 Calls on absent nodes and links without room are refused. An unknown word is a bad call.
 
-  $ test_decks edges <<END
+  $ test_calls edges <<END
   > users 0
   > unsettle 0
   > node
@@ -148,7 +148,7 @@ by number.
      1428 spare
      1371 unsettle
      1428 users
-  $ test_decks edges < calls > answers
+  $ test_calls edges < calls > answers
   $ paste -d ' ' calls answers | awk '$1 == "link" { print $4 }' | sort | uniq -c
      7906 ok
       723 refused

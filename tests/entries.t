@@ -1,10 +1,10 @@
-Definition lines, as `test_values entries` reads them. For each definition and each list of a file, it prints the number
+Definition lines, as `test_calls entries` reads them. For each definition and each list of a file, it prints the number
 of the line, the key, the kind and the text of the entry, or why the line is refused. The keys, entries and faults are
 found by hand from the rules of the format.
 
 Each form: a unit, a prefix, a function with its options, an alias, a table and a list.
 
-  $ test_values entries <<'END'
+  $ test_calls entries <<'END'
   > m !
   > radian !dimensionless
   > yard  3 ft 
@@ -48,7 +48,7 @@ Each form: a unit, a prefix, a function with its options, an alias, a table and 
 
 Options may be in any order. The parts that a function has are listed.
 
-  $ test_values entries <<'END'
+  $ test_calls entries <<'END'
   > f(x) units=[m;] noerror domain=[0,1] x
   > f(x) domain=[0,1] units=[m;] noerror x
   > f(x) noerror domain=[0,1] units=[m;] x
@@ -69,7 +69,7 @@ Options may be in any order. The parts that a function has are listed.
 The first fault of each line. A bad name, parameter or alias target comes before a bad form, this before a bad table,
 and this before a fault in an expression. Blanks at the ends of a line are dropped, so ` m !` is `m !`.
 
-  $ test_values entries <<'END'
+  $ test_calls entries <<'END'
   > foo2 m
   > 2foo(
   > sin
@@ -162,98 +162,98 @@ and this before a fault in an expression. Blanks at the ends of a line are dropp
 Places count from 0. Parentheses are at most 64 deep.
 
   $ { printf 'a '; printf '1%.0s' $(seq 20); printf ' m%.0s' $(seq 592); echo ' +'; } > places
-  $ test_values entries < places
+  $ test_calls entries < places
   1: refused: syntax error at 1206
   1 lines, 1 refused
   $ nested() { printf 'a '; printf '(%.0s' $(seq $1); printf m; printf ')%.0s' $(seq $1); echo; }
-  $ nested 64 | test_values entries | cut -c 1-12
+  $ nested 64 | test_calls entries | cut -c 1-12
   1: a | body\x20 (esc)
   1 lines, 0 r
-  $ nested 65 | test_values entries
+  $ nested 65 | test_calls entries
   1: refused: nested too deep
   1 lines, 1 refused
 
 Comments, blank lines and other directives are not counted. A continued line is one line.
 
-  $ printf '' | test_values entries
+  $ printf '' | test_calls entries
   0 lines, 0 refused
-  $ printf 'm !' | test_values entries
+  $ printf 'm !' | test_calls entries
   1: m | primitive | !
   1 lines, 0 refused
-  $ printf 'm !\nfoo2 m\n' | test_values entries
+  $ printf 'm !\nfoo2 m\n' | test_calls entries
   1: m | primitive | !
   2: refused: bad name: foo2
   2 lines, 1 refused
-  $ printf '+foo2 m\n' | test_values entries
+  $ printf '+foo2 m\n' | test_calls entries
   1: refused: bad name: foo2
   1 lines, 1 refused
-  $ printf '# foo2 m\n\n!include\n!nothing\n!var A\n' | test_values entries
+  $ printf '# foo2 m\n\n!include\n!nothing\n!var A\n' | test_calls entries
   0 lines, 0 refused
-  $ printf '!unitlist hms hr;min;sec\n!unitlist z m;;s\n' | test_values entries
+  $ printf '!unitlist hms hr;min;sec\n!unitlist z m;;s\n' | test_calls entries
   1: !unitlist hms | list of 3 | hr;min;sec
   2: refused: syntax error at 0
   2 lines, 1 refused
-  $ printf 'a \\\n!\nfoo2 m' | test_values entries
+  $ printf 'a \\\n!\nfoo2 m' | test_calls entries
   1: a | primitive | !
   3: refused: bad name: foo2
   2 lines, 1 refused
-  $ printf 'f(x) \\\r\n;x\r\n' | test_values entries
+  $ printf 'f(x) \\\r\n;x\r\n' | test_calls entries
   1: refused: bad definition
   1 lines, 1 refused
-  $ printf 't[m] 1 2' | test_values entries
+  $ printf 't[m] 1 2' | test_calls entries
   1: refused: bad table
   1 lines, 1 refused
-  $ printf 'm 2 +' | test_values entries
+  $ printf 'm 2 +' | test_calls entries
   1: refused: syntax error at 3
   1 lines, 1 refused
-  $ printf 'm 1e10000\nm /s' | test_values entries
+  $ printf 'm 1e10000\nm /s' | test_calls entries
   1: refused: numeral too long
   2: refused: syntax error at 0
   2 lines, 2 refused
 
 A file of more than 16 MiB is not read.
 
-  $ head -c 16777216 /dev/zero | tr '\0' '#' > long; test_values entries < long
+  $ head -c 16777216 /dev/zero | tr '\0' '#' > long; test_calls entries < long
   0 lines, 0 refused
-  $ printf '#' >> long; test_values entries < long
+  $ printf '#' >> long; test_calls entries < long
   file too long
 
 A table has at most 1,000 points. If more follows, the table is refused without reading it.
 
   $ points() { printf 't[m]'; seq 0 $1 | sed 's/.*/ & 1|3,/' | tr -d '\n'; }
-  $ points 999 | test_values entries | cut -c 1-42
+  $ points 999 | test_calls entries | cut -c 1-42
   1: t() | table | [m] 0 1|3, 1 1|3, 2 1|3,\x20 (esc)
   1 lines, 0 refused
-  $ { points 999; echo ' 1000 2'; } | test_values entries
+  $ { points 999; echo ' 1000 2'; } | test_calls entries
   1: refused: bad table
   1 lines, 1 refused
-  $ { points 999; echo ' 1000'; } | test_values entries
+  $ { points 999; echo ' 1000'; } | test_calls entries
   1: refused: bad table
   1 lines, 1 refused
-  $ { points 999; echo ' ,'; } | test_values entries
+  $ { points 999; echo ' ,'; } | test_calls entries
   1: refused: bad table
   1 lines, 1 refused
 
 Long lines.
 
   $ long() { printf "$1"; yes "$2" | head -n 50000 | tr -d '\n'; }
-  $ long '!unitlist z m' ';m' | test_values entries | cut -c 1-40
+  $ long '!unitlist z m' ';m' | test_calls entries | cut -c 1-40
   1: !unitlist z | list of 50001 | m;m;m;m
   1 lines, 0 refused
-  $ long 't[m] 1 2' ' 3 4' | test_values entries
+  $ long 't[m] 1 2' ' 3 4' | test_calls entries
   1: refused: bad table
   1 lines, 1 refused
-  $ long n n | test_values entries | cut -c 1-26
+  $ long n n | test_calls entries | cut -c 1-26
   1: refused: bad name: nnnn
   1 lines, 1 refused
-  $ long 'a m' ' m' | test_values entries | cut -c 1-25
+  $ long 'a m' ' m' | test_calls entries | cut -c 1-25
   1: a | body | m m m m m m
   1 lines, 0 refused
 
 Two entries of one key are equal exactly if their texts are. Of each three lines, the first two are equal, and the third
 differs.
 
-  $ test_values entries <<'END'
+  $ test_calls entries <<'END'
   > a 2 m
   > + a	2 m
   > a 2  m
@@ -289,7 +289,7 @@ differs.
 
 The built-in definitions.
 
-  $ test_values entries <<'END'
+  $ test_calls entries <<'END'
   > # primitives
   > m !
   > kg !
@@ -441,7 +441,7 @@ The built-in definitions.
 
 A file of a million lines, and one line of a million continuations.
 
-  $ yes 'm !' | head -n 1000000 | test_values entries | tail -n 1
+  $ yes 'm !' | head -n 1000000 | test_calls entries | tail -n 1
   1000000 lines, 0 refused
-  $ { printf 'm '; yes '\' | head -n 1000000; echo '!'; } | test_values entries | tail -n 1
+  $ { printf 'm '; yes '\' | head -n 1000000; echo '!'; } | test_calls entries | tail -n 1
   1 lines, 0 refused

@@ -1,4 +1,4 @@
-Histories, as `test_tables history` answers calls. The first call, `load FILE`, makes a table of the deck of a file.
+Histories, as `test_calls history` answers calls. The first call, `load FILE`, makes a table of the deck of a file.
 `value EXPRESSION` prints an exact value, and `lines` prints the lines of the deck, each with a `;` after it.
 `define LINE`, `drop KEY`, `switch LOCALE` and `append FILE` are edits, which `undo` and `redo` undo and redo.
 
@@ -10,7 +10,7 @@ Histories, as `test_tables history` answers calls. The first call, `load FILE`, 
   > b 3 a
   > c 5 m
   > END
-  $ test_tables history <<'END'
+  $ test_calls history <<'END'
   > load small.units
   > value b
   > define a 7 m
@@ -39,7 +39,7 @@ Histories, as `test_tables history` answers calls. The first call, `load FILE`, 
 
 A refused edit cannot be undone, and after a new edit nothing can be redone.
 
-  $ test_tables history <<'END'
+  $ test_calls history <<'END'
   > load small.units
   > define d 2 a
   > undo
@@ -78,7 +78,7 @@ A dropped line comes back at its place, with its number and its mark, and covers
   > a 3 m
   > b 5 a
   > END
-  $ test_tables history <<'END'
+  $ test_calls history <<'END'
   > load covered.units
   > value b
   > drop a
@@ -122,7 +122,7 @@ A dropped line comes back at its place, with its number and its mark, and covers
 A new definition covers the earlier line, and an undo uncovers it, at any depth. A definition with the same text is an
 edit too.
 
-  $ test_tables history <<'END'
+  $ test_calls history <<'END'
   > load covered.units
   > define a 7 m
   > define a 7 m
@@ -183,7 +183,7 @@ too.
   > !locale en_GB
   > a 5 m
   > END
-  $ test_tables history <<'END'
+  $ test_calls history <<'END'
   > load local.units
   > value a
   > switch en_GB

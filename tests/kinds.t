@@ -1,18 +1,79 @@
-The first word on the command line of a test program names the kind of its calls. A missing or unknown word is refused.
-Each program has a stored run of its first kind; this file has runs of the other kinds.
+The first word on the command line of `test_calls` names the kind of its calls. A missing or unknown word is refused.
+The program has a stored run of the kind `values`; this file has runs of the other kinds.
 
-The kinds of `test_values`.
+  $ echo count | test_calls
+  test_calls: no kind of calls is named; the kinds are numbers, amounts, texts, entries, decks, edges, values, history and answers
+  [2]
+  $ echo count | test_calls units
+  test_calls: unknown kind of calls: units; the kinds are numbers, amounts, texts, entries, decks, edges, values, history and answers
+  [2]
 
-  $ echo count | test_values
-  test_values: no kind of calls is named; the kinds are numbers, amounts, texts and entries
-  [2]
-  $ echo count | test_values units
-  test_values: unknown kind of calls: units; the kinds are numbers, amounts, texts and entries
-  [2]
+Fractions, numerals and their texts.
+
+  $ test_calls numbers <<'END'
+  > new -6 4
+  > negate 1|3
+  > floor -7|2
+  > add 1|2 1|3
+  > sub 1|2 1|3
+  > add 85070591730234615865843651857942052864 85070591730234615865843651857942052864
+  > mul 85070591730234615865843651857942052864 3|4
+  > div 5 0
+  > div 1 -7|3
+  > pow -2|3 3
+  > pow 0 -1
+  > root -8|27 3
+  > root 2 2
+  > cmp -1|2 1|3
+  > cmp 2|4 1|2
+  > zero 0|3
+  > zero 1|3
+  > exact 10|4
+  > digits 1 19|2
+  > digits 8 1|86400
+  > digits 2 1000
+  > length 5eV
+  > numeral 1.50e3
+  > numeral .
+  > numeral 1e10000
+  > numeral 1e39
+  > root 4 0
+  > negate 1|0
+  > half 3
+  > END
+  -3|2
+  -1|3
+  -4
+  5|6
+  1|6
+  overflow
+  63802943797675961899382738893456539648
+  division by zero
+  -3|7
+  -8|27
+  division by zero
+  -2|3
+  no exact root
+  less
+  equal
+  true
+  false
+  5|2
+  1e+01
+  1.1574074e-05
+  1e+03
+  1
+  1500
+  not a numeral
+  too long
+  overflow
+  bad call
+  bad call
+  bad call
 
 Quantities, lists of units and tables of points.
 
-  $ test_values amounts <<'END'
+  $ test_calls amounts <<'END'
   > add 1|2 m;1|3 m
   > plus 1|2 m;1|3 s
   > mul 2 m;3 m^2
@@ -61,7 +122,7 @@ Quantities, lists of units and tables of points.
 
 Expressions, their words, and the keys that a word leads to.
 
-  $ test_values texts <<'END'
+  $ test_calls texts <<'END'
   > plain 2^3^2
   > plain -2^2
   > plain 3 - (-2)^2
@@ -114,7 +175,7 @@ Expressions, their words, and the keys that a word leads to.
 
 The lines of a definition file.
 
-  $ test_values entries <<'END'
+  $ test_calls entries <<'END'
   > # units of length
   > m !
   > ft 381|1250 m	# a foot
@@ -143,18 +204,86 @@ The lines of a definition file.
   15: refused: bad definition
   10 lines, 6 refused
 
-The kinds of `test_decks`.
+Decks.
 
-  $ echo count | test_decks
-  test_decks: no kind of calls is named; the kinds are decks and edges
-  [2]
-  $ echo count | test_decks units
-  test_decks: unknown kind of calls: units; the kinds are decks and edges
-  [2]
+  $ cat > deck.units <<'END'
+  > # a few units
+  > m !
+  > !include more.units
+  > in 254|10000 m
+  > ft 12 in
+  > !locale en_GB
+  > gallon 4.54609 liter
+  > !endlocale
+  > !var FEET on
+  > h_1 3 ft
+  > !endvar
+  > 1a m
+  > !utf8
+  > END
+  $ cat > more.units <<'END'
+  > liter 1|1000 m^3
+  > gallon 231 in^3
+  > kilo- 1000
+  > f(x) units=[1;1] x+1 ; f-1
+  > !unitlist ftin ft;in
+  > !message hello
+  > !endvar
+  > END
+  $ test_calls decks <<'END'
+  > lines
+  > load deck.units
+  > lines
+  > notices
+  > keys
+  > count
+  > messages
+  > entry gallon
+  > place gallon
+  > locale en_GB
+  > set FEET on
+  > snapshot
+  > switch
+  > settings
+  > compare
+  > entry gallon
+  > define ft 12 in
+  > define yd 3 ft
+  > define 3 ft
+  > drop gallon
+  > append more.units
+  > defining
+  > load none.units
+  > foo
+  > END
+  no deck
+  ok
+  2 m ! | 3 !include more.units | 1 liter 1|1000 m^3 | 2 gallon 231 in^3 | 3 kilo- 1000 | 4 f(x) units=[1;1] x+1 ; f-1 | 5 !unitlist ftin ft;in | 6 !message hello | 7 ~!endvar | 4 in 254|10000 m | 5 ft 12 in | 6 !locale en_GB | 7 gallon 4.54609 liter | 8 !endlocale | 9 !var FEET on | 10 h_1 3 ft | 11 !endvar | 12 ~1a m | 13 !utf8 | 13 !endutf8
+  more.units:7: stray end | deck.units:12: bad name: 1a | deck.units:13: unclosed block
+  f() | ft | !unitlist ftin | gallon | in | kilo- | liter | m
+  5 units, 1 prefixes, 1 functions, 1 lists, 20 lines, 3 notices
+  hello
+  231 in^3
+  3
+  ok
+  ok
+  ok
+  changed: gallon | h_1
+  en_GB | FEET on
+  different
+  4.54609 liter
+  changed: none
+  changed: yd
+  bad name: 3
+  changed: gallon
+  changed: none
+  m ! | liter 1|1000 m^3 | gallon 231 in^3 | kilo- 1000 | f(x) units=[1;1] x+1 ; f-1 | !unitlist ftin ft;in | in 254|10000 m | ft 12 in | h_1 3 ft | ft 12 in | yd 3 ft | liter 1|1000 m^3 | gallon 231 in^3 | kilo- 1000 | f(x) units=[1;1] x+1 ; f-1 | !unitlist ftin ft;in
+  absent
+  bad call
 
 Linked edges.
 
-  $ test_decks edges <<'END'
+  $ test_calls edges <<'END'
   > node
   > node
   > node
@@ -185,15 +314,6 @@ Linked edges.
   refused
   bad call
 
-The kinds of `test_tables`.
-
-  $ echo count | test_tables
-  test_tables: no kind of calls is named; the kinds are values, history and answers
-  [2]
-  $ echo count | test_tables units
-  test_tables: unknown kind of calls: units; the kinds are values, history and answers
-  [2]
-
 Edits that are undone and redone.
 
   $ cat > history.units <<'END'
@@ -204,7 +324,7 @@ Edits that are undone and redone.
   > a 2 m
   > b 3 a
   > END
-  $ test_tables history <<'END'
+  $ test_calls history <<'END'
   > load history.units
   > value b
   > define a 7 m
@@ -270,7 +390,7 @@ Replies and reports.
   > !unitlist yards yd;ft
   > bad 2 nosuch
   > END
-  $ test_tables answers <<'END'
+  $ test_calls answers <<'END'
   > load small.units
   > convert 3 ft to m
   > options verbose exact

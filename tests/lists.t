@@ -1,10 +1,10 @@
-Quantities split into counts of units, by `test_values amounts`. The expected counts come from Python's fractions.
+Quantities split into counts of units, by `test_calls amounts`. The expected counts come from Python's fractions.
 
 Each unit but the last gets the greatest whole count, and the last gets the rest. A negative quantity has the negated
 counts of its magnitude. Faults number the units from 0. A unit that does not conform is reported before one that is not
 above 0, and both before an overflow.
 
-  $ test_values amounts <<END
+  $ test_calls amounts <<END
   > split 7|5 m;381|1250 m;127|5000 m
   > split -7|5 m;381|1250 m;127|5000 m
   > split 0 m;381|1250 m;127|5000 m
@@ -42,7 +42,7 @@ above 0, and both before an overflow.
 `round` first rounds the quantity to the nearest whole multiple of the last unit, or to the even one of two, and then
 splits it.
 
-  $ test_values amounts <<END
+  $ test_calls amounts <<END
   > round 7|5 m;381|1250 m;127|5000 m
   > round 75819|125000 m;381|1250 m;127|5000 m
   > round -75819|125000 m;381|1250 m;127|5000 m

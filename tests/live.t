@@ -1,4 +1,4 @@
-Live tables, by `test_tables values`, which reads one call a line. The first call, `load FILE`, makes the table of a
+Live tables, by `test_calls values`, which reads one call a line. The first call, `load FILE`, makes the table of a
 file's deck. `value EXPRESSION` and `unapply NAME EXPRESSION` (the inverse of a function at the value of the expression)
 are queries. `settle` queries every name. `counts` answers how many names are settled, how many have an entry, and how
 many times a name has been settled since the load. Edits are `define LINE`, `drop KEY`, `switch LOCALE`, `append FILE`,
@@ -16,7 +16,7 @@ own.
   > d c b
   > s s
   > END
-  $ test_tables values <<'END'
+  $ test_calls values <<'END'
   > load cycle.units
   > counts
   > value a
@@ -74,7 +74,7 @@ a table of points, and a prefix. The parts of a function are searched in the ord
   > p- p
   > q- pq
   > END
-  $ test_tables values <<'END'
+  $ test_calls values <<'END'
   > load cycles.units
   > value f(1)
   > value ~f(1)
@@ -157,7 +157,7 @@ table. A word of the query itself is reported without a key. Only a function can
   > r_a() cos
   > r_l- exp m
   > END
-  $ test_tables values <<'END'
+  $ test_calls values <<'END'
   > load unknown.units
   > value nosuch
   > value 2 m nosuch
@@ -237,7 +237,7 @@ kind. If there are several faults, the first in the text is reported.
   > p[f(sin) m] 0 1, 1 2
   > a() h
   > END
-  $ test_tables values <<'END'
+  $ test_calls values <<'END'
   > load under.units
   > value f(sin)
   > value f(2 cos(1) nosuch)
@@ -294,7 +294,7 @@ A word of a prefix and a unit has two targets. The prefix comes first, and so do
   > v 1/0
   > w m + 1
   > END
-  $ test_tables values <<'END'
+  $ test_calls values <<'END'
   > load targets.units
   > value goodm
   > counts
@@ -339,7 +339,7 @@ is taken. A function comes before a unit in a call, and after it elsewhere. A un
   > g(x) units=[m;] x / m
   > gs 17 m
   > END
-  $ test_tables values <<'END'
+  $ test_calls values <<'END'
   > load lookup.units
   > value dab
   > value daab
@@ -410,7 +410,7 @@ reaches, since all of them lead somewhere. A syntax error is reported before any
   > t[b] 0 1, 2 3
   > !unitlist l m;a
   > END
-  $ test_tables values <<'END'
+  $ test_calls values <<'END'
   > load counts.units
   > counts
   > value a
@@ -480,7 +480,7 @@ reaches, since all of them lead somewhere. A syntax error is reported before any
   10 settled, 11 names, 10 reductions
   ok
   10 settled, 11 names, 10 reductions
-  $ test_tables values <<'END'
+  $ test_calls values <<'END'
   > load counts.units
   > counts
   > settle
@@ -493,7 +493,7 @@ reaches, since all of them lead somewhere. A syntax error is reported before any
 
 Queries of settled names give the same answers, and the order of queries does not matter.
 
-  $ test_tables values > forth <<'END'
+  $ test_calls values > forth <<'END'
   > load counts.units
   > value a
   > value d
@@ -503,7 +503,7 @@ Queries of settled names give the same answers, and the order of queries does no
   > value t(1)
   > counts
   > END
-  $ test_tables values > back <<'END'
+  $ test_calls values > back <<'END'
   > load counts.units
   > value t(1)
   > value ~g(3 s)
@@ -540,7 +540,7 @@ of an expression is reported.
   > big 1e30 1e30
   > root m^(1|61)
   > END
-  $ test_tables values <<'END'
+  $ test_calls values <<'END'
   > load faults.units
   > value sq(3 m)
   > unapply sq 9 m^2
@@ -591,7 +591,7 @@ Functions that call one another can be called up to rank 16.
 
   $ (echo 'f_1(x) x + 1 ; f_1 - 1'; for i in $(seq 2 16); do echo "f_$i(x) f_$((i - 1))(x) ; ~f_$((i - 1))(f_$i)"; done) > deep.units
   $ printf 'g() f_16\nt[f_16(1)] 0 1, 1 2\nh(x) g\nu f_16(2)\nw g(2)\n' >> deep.units
-  $ test_tables values <<'END'
+  $ test_calls values <<'END'
   > load deep.units
   > value f_16(2)
   > unapply f_16 2
@@ -616,24 +616,24 @@ Functions that call one another can be called up to rank 16.
 
 Loads, and lines that are not calls. If nothing is loaded, the reason is the only answer.
 
-  $ printf 'value 2\ncounts\n' | test_tables values
+  $ printf 'value 2\ncounts\n' | test_calls values
   no deck
-  $ printf 'load nosuch.units\nvalue 2\n' | test_tables values
+  $ printf 'load nosuch.units\nvalue 2\n' | test_calls values
   absent
-  $ printf 'load counts.units' | test_tables values
+  $ printf 'load counts.units' | test_calls values
   ok
-  $ printf '' | test_tables values
+  $ printf '' | test_calls values
   no deck
-  $ printf 'load counts.units\nvalue c' | test_tables values
+  $ printf 'load counts.units\nvalue c' | test_calls values
   ok
   1 m^3
   $ head -c 16777217 /dev/zero | tr '\0' '\n' > long.units
   $ mkdir folder
-  $ printf 'load long.units\ncounts\n' | test_tables values
+  $ printf 'load long.units\ncounts\n' | test_calls values
   too long
-  $ printf 'load folder\ncounts\n' | test_tables values
+  $ printf 'load folder\ncounts\n' | test_calls values
   read failed
-  $ test_tables values <<'END'
+  $ test_calls values <<'END'
   > load lookup.units
   > load counts.units
   > values
@@ -663,7 +663,7 @@ Loads, and lines that are not calls. If nothing is loaded, the reason is the onl
 A locale and variables select entries. A line with a bad name is refused and defines nothing.
 
   $ printf 'm !\n!locale en_US\ng 3 m\n!endlocale\n!locale en_GB\ng 2 m\n!endlocale\n1a m\nb 1a\n!set V x\n!var V x\nh 5 m\n!endvar\n' > blocks.units
-  $ test_tables values <<'END'
+  $ test_calls values <<'END'
   > load blocks.units
   > value g h
   > value b
@@ -678,7 +678,7 @@ A ring of 20,000 names. The chain from each of its names is the whole ring, and 
 the ring, the chain begins where it enters. Each name in the chain is followed by the one before it in the ring.
 
   $ (echo 'u_0 2 u_19999'; for i in $(seq 1 19999); do echo "u_$i 3 u_$((i - 1))"; done; echo 'in u_12345') > ring.units
-  $ test_tables values > answers <<'END'
+  $ test_calls values > answers <<'END'
   > load ring.units
   > value u_0
   > value u_12345
@@ -719,7 +719,7 @@ the ring, the chain begins where it enters. Each name in the chain is followed b
 A chain of 20,001 names. Queries settle each name once, and a query of settled names settles nothing.
 
   $ (echo 'u_0 !'; for i in $(seq 1 20000); do echo "u_$i $((2 - i % 2))|$((1 + i % 2)) u_$((i - 1))"; done) > chain.units
-  $ test_tables values <<'END'
+  $ test_calls values <<'END'
   > load chain.units
   > value u_10001
   > counts
@@ -745,7 +745,7 @@ forgets nothing, and so dropping it forgets nothing either. A drop uncovers the 
 nothing.
 
   $ printf 'm !\na 2 m\nb 3 a\nc 5 m\n' > edits.units
-  $ test_tables values <<'END'
+  $ test_calls values <<'END'
   > load edits.units
   > value b
   > value c
@@ -792,7 +792,7 @@ A name shadows a prefix and uncovers it again, a name that was absent when it wa
 made and broken.
 
   $ printf 'm !\nk- 1000\nx 2 km\ny zz\np q\nq 4 m\n' > shadow.units
-  $ test_tables values <<'END'
+  $ test_calls values <<'END'
   > load shadow.units
   > value x
   > counts
@@ -837,7 +837,7 @@ A change of a prefix that was tried and left no unit, and of the name that it wo
 up is forgotten, a query that did is answered anew, and no other name is affected. A cycle is made and broken.
 
   $ printf 'm !\nda- 10\nd- 1|10\nab 7 m\nx dab\ny ab\np q\nq 4 m\n' > nowhere.units
-  $ test_tables values <<'END'
+  $ test_calls values <<'END'
   > load nowhere.units
   > value x
   > value y
@@ -914,7 +914,7 @@ Switches to the other locale and back, and an append that redefines half of the 
 
   $ printf 'm !\n!locale en_US\ngal 3 m\n!endlocale\n!locale en_GB\ngal 4 m\n!endlocale\nv 2 gal\nw 9 m\n' > locales.units
   $ printf 'gal 5 m\nw 8 m\n' > half.units
-  $ test_tables values <<'END'
+  $ test_calls values <<'END'
   > load locales.units
   > value v
   > value w
@@ -974,7 +974,7 @@ refused calls of `back`, and of calls that are done. The checksum is that of all
   >     done
   >   done
   > }
-  $ (printf 'load spliced.units\n'; asked; splices) | test_tables values > spliced
+  $ (printf 'load spliced.units\n'; asked; splices) | test_calls values > spliced
   $ grep -c '^no such splice$' spliced
   172
   $ grep -c '^no splice$' spliced

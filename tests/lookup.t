@@ -1,7 +1,7 @@
 The definitions that a word finds in tables of a few keys, and the keys that are looked up on the way, absent ones too.
 A prefix is written with a `-`, a function with `()`. The answers are found by hand.
 
-  $ found() { while IFS= read -r call; do printf '%s => ' "$call"; echo "find $call" | test_values texts; done; }
+  $ found() { while IFS= read -r call; do printf '%s => ' "$call"; echo "find $call" | test_calls texts; done; }
 
 A word alone is first looked up as a unit, then as a function; a word before an operand first as a function, then as a
 unit; and a word after a `~` only as a function.
@@ -76,5 +76,5 @@ prefix.
 
 Each prefix of a long word is looked up once.
 
-  $ { printf 'find plain '; yes a | head -n 255 | tr -d '\n'; echo ' m'; } | test_values texts | wc -w
+  $ { printf 'find plain '; yes a | head -n 255 | tr -d '\n'; echo ' m'; } | test_calls texts | wc -w
   260

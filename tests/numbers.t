@@ -1,9 +1,9 @@
-Operations on fractions of 127 bits, by `test_values numbers`, which reads one call a line. The expected numbers are
+Operations on fractions of 127 bits, by `test_calls numbers`, which reads one call a line. The expected numbers are
 those of Python's fractions.
 
 A numerator over a denominator. They may be the least number of 128 bits if the reduced fraction fits.
 
-  $ test_values numbers <<END
+  $ test_calls numbers <<END
   > new 6 -4
   > new -6 -4
   > new 100 10
@@ -40,7 +40,7 @@ A numerator over a denominator. They may be the least number of 128 bits if the 
 
 Factors are reduced before they are multiplied, so that a product that fits never overflows.
 
-  $ test_values numbers <<END
+  $ test_calls numbers <<END
   > mul 85070591730234615865843651857942052864 3|4
   > mul -85070591730234615865843651857942052864 3|4
   > mul 85070591730234615865843651857942052864 -2
@@ -65,7 +65,7 @@ Factors are reduced before they are multiplied, so that a product that fits neve
 
 Quotients.
 
-  $ test_values numbers <<END
+  $ test_calls numbers <<END
   > div 85070591730234615865843651857942052864 3|4
   > div -85070591730234615865843651857942052864 3|4
   > div 85070591730234615865843651857942052864 -2
@@ -90,7 +90,7 @@ Quotients.
 
 Whether a fraction is 0.
 
-  $ test_values numbers <<END
+  $ test_calls numbers <<END
   > zero 85070591730234615865843651857942052864
   > zero -85070591730234615865843651857942052864
   > zero 85070591730234615865843651857942052864
@@ -115,7 +115,7 @@ Whether a fraction is 0.
 
 A sum overflows if the least common multiple of the denominators, a numerator over it or the sum is too large.
 
-  $ test_values numbers <<END
+  $ test_calls numbers <<END
   > add 1|6 1|10
   > add -1|3 1|3
   > add 170141183460469231731687303715884105727|2 170141183460469231731687303715884105727|2
@@ -140,7 +140,7 @@ A sum overflows if the least common multiple of the denominators, a numerator ov
 
 Differences.
 
-  $ test_values numbers <<END
+  $ test_calls numbers <<END
   > sub 1|6 1|10
   > sub -1|3 1|3
   > sub 170141183460469231731687303715884105727|2 170141183460469231731687303715884105727|2
@@ -165,7 +165,7 @@ Differences.
 
 Comparisons are exact for the largest numbers too.
 
-  $ test_values numbers <<END
+  $ test_calls numbers <<END
   > cmp 1|6 1|10
   > cmp -1|3 1|3
   > cmp 170141183460469231731687303715884105727|2 170141183460469231731687303715884105727|2
@@ -190,7 +190,7 @@ Comparisons are exact for the largest numbers too.
 
 Negations, and the sum of a number and its negation, which is 0.
 
-  $ test_values numbers <<END
+  $ test_calls numbers <<END
   > negate 1|6
   > add 1|6 -1|6
   > negate -1|3
@@ -235,7 +235,7 @@ Negations, and the sum of a number and its negation, which is 0.
 
 `floor` rounds down.
 
-  $ test_values numbers <<END
+  $ test_calls numbers <<END
   > floor 7|2
   > floor -7|2
   > floor -6|2
@@ -252,7 +252,7 @@ Negations, and the sum of a number and its negation, which is 0.
 
 Powers stop at the first product that is too large, whatever the exponent.
 
-  $ test_values numbers <<END
+  $ test_calls numbers <<END
   > pow 0 0
   > pow 0 5
   > pow 0 -1
@@ -293,7 +293,7 @@ Powers stop at the first product that is too large, whatever the exponent.
 
 A root is exact, or there is none.
 
-  $ test_values numbers <<END
+  $ test_calls numbers <<END
   > root 4|9 2
   > root 9|4 2
   > root 2 2

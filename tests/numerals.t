@@ -1,8 +1,8 @@
-Numerals, as `test_values numbers` reads them. The expected values are those of Python's fractions.
+Numerals, as `test_calls numbers` reads them. The expected values are those of Python's fractions.
 
 The length of the longest numeral at the front of a text, or 0 if there is none.
 
-  $ test_values numbers <<END
+  $ test_calls numbers <<END
   > length 5.
   > length .5
   > length 0.0254
@@ -57,7 +57,7 @@ The length of the longest numeral at the front of a text, or 0 if there is none.
 
 The value of a text that is a numeral.
 
-  $ test_values numbers <<END
+  $ test_calls numbers <<END
   > numeral 5.
   > numeral .5
   > numeral 0.0254
@@ -112,7 +112,7 @@ The value of a text that is a numeral.
 
 An empty text is not a numeral.
 
-  $ printf 'length \nnumeral \n' | test_values numbers
+  $ printf 'length \nnumeral \n' | test_calls numbers
   0
   not a numeral
 
@@ -121,7 +121,7 @@ Zeros before and after the other digits never make a numeral too long.
   $ zeros=$(printf %060000d 0)
   $ for text in "$zeros" "1$zeros" "${zeros}1.5" "2.5$zeros"; do
   >     printf 'length %s\nnumeral %s\n' "$text" "$text"
-  > done | test_values numbers
+  > done | test_calls numbers
   60000
   0
   60001

@@ -1,9 +1,9 @@
-Tables of points, by `test_values amounts`: `at` answers the y at an x, and `back` the x at a y. The expected values
+Tables of points, by `test_calls amounts`: `at` answers the y at an x, and `back` the x at a y. The expected values
 come from Python's fractions.
 
 A table that rises.
 
-  $ sed 's:POINTS:1 1|500;10 1|50;15 1|25;19 3|50;23 1|10:' <<END | test_values amounts
+  $ sed 's:POINTS:1 1|500;10 1|50;15 1|25;19 3|50;23 1|10:' <<END | test_calls amounts
   > at 1;POINTS
   > back 1;POINTS
   > at 10;POINTS
@@ -64,7 +64,7 @@ A table that rises.
 
 Flat and falling segments: `back` uses the first segment that contains the y, and gives the left end of a flat one.
 
-  $ sed 's:POINTS:1 5;2 5;3 4;5 -4;6 7:' <<END | test_values amounts
+  $ sed 's:POINTS:1 5;2 5;3 4;5 -4;6 7:' <<END | test_calls amounts
   > at 1;POINTS
   > back 1;POINTS
   > at 3|2;POINTS
@@ -121,7 +121,7 @@ Flat and falling segments: `back` uses the first segment that contains the y, an
 
 A step that overflows is reported, even if the result would fit.
 
-  $ sed 's:POINTS:0 0;85070591730234615865843651857942052864 85070591730234615865843651857942052864:' <<END | test_values amounts
+  $ sed 's:POINTS:0 0;85070591730234615865843651857942052864 85070591730234615865843651857942052864:' <<END | test_calls amounts
   > at 0;POINTS
   > back 0;POINTS
   > at 1;POINTS
@@ -148,7 +148,7 @@ A step that overflows is reported, even if the result would fit.
   outside the table
   outside the table
 
-  $ sed 's:POINTS:0 -170141183460469231731687303715884105727;1 1;2 1|2:' <<END | test_values amounts
+  $ sed 's:POINTS:0 -170141183460469231731687303715884105727;1 1;2 1|2:' <<END | test_calls amounts
   > at 0;POINTS
   > back 0;POINTS
   > at 1|2;POINTS
@@ -169,7 +169,7 @@ A step that overflows is reported, even if the result would fit.
 
 A table has 2 to 1,000 points, whose x increase strictly.
 
-  $ test_values amounts <<END
+  $ test_calls amounts <<END
   > at 1|2;
   > at 1|2;1 1
   > at 1|2;1|3 1;1|2 1
@@ -184,9 +184,9 @@ A table has 2 to 1,000 points, whose x increase strictly.
   no table
   no table
 
-  $ { printf 'at 0'; for i in $(seq 0 998); do printf ';%d %d|7' $i $i; done; echo; } | test_values amounts
+  $ { printf 'at 0'; for i in $(seq 0 998); do printf ';%d %d|7' $i $i; done; echo; } | test_calls amounts
   0
-  $ { printf 'at 0'; for i in $(seq 0 999); do printf ';%d %d|7' $i $i; done; echo; } | test_values amounts
+  $ { printf 'at 0'; for i in $(seq 0 999); do printf ';%d %d|7' $i $i; done; echo; } | test_calls amounts
   0
-  $ { printf 'at 0'; for i in $(seq 0 1000); do printf ';%d %d|7' $i $i; done; echo; } | test_values amounts
+  $ { printf 'at 0'; for i in $(seq 0 1000); do printf ';%d %d|7' $i $i; done; echo; } | test_calls amounts
   no table

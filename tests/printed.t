@@ -1,8 +1,8 @@
-The texts of fractions, by `test_values numbers`. The expected texts come from Python's decimal and fractions.
+The texts of fractions, by `test_calls numbers`. The expected texts come from Python's decimal and fractions.
 
 `digits N` prints the nearest number of N significant digits, or the even one of two.
 
-  $ test_values numbers <<END
+  $ test_calls numbers <<END
   > digits 2 199|2
   > digits 1 5|2
   > digits 1 7|2
@@ -65,7 +65,7 @@ The texts of fractions, by `test_values numbers`. The expected texts come from P
 
 `exact` prints the fraction itself.
 
-  $ test_values numbers <<END
+  $ test_calls numbers <<END
   > exact 3
   > exact -3
   > exact 0

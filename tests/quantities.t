@@ -1,9 +1,9 @@
-Operations on quantities, by `test_values amounts`, which reads one call a line. The expected values were worked out by
+Operations on quantities, by `test_calls amounts`, which reads one call a line. The expected values were worked out by
 hand and with Python's fractions. Each operation has two forms: one borrows its left operand, the other consumes it.
 
 Products: the exponents are added. A fault of the number comes before one of an exponent.
 
-  $ test_values amounts <<END
+  $ test_calls amounts <<END
   > mul 2 m;3 m^2
   > times 2 m;3 m^2
   > mul 1 m^1|2;1 m^1|2
@@ -40,7 +40,7 @@ Products: the exponents are added. A fault of the number comes before one of an 
 
 Quotients: the exponents are subtracted.
 
-  $ test_values amounts <<END
+  $ test_calls amounts <<END
   > div 2 m;3 m^2
   > over 2 m;3 m^2
   > div 1 m^1|2;1 m^1|2
@@ -77,7 +77,7 @@ Quotients: the exponents are subtracted.
 
 Sums and differences: the exponents have to be equal, which is tested before the numbers are added.
 
-  $ test_values amounts <<END
+  $ test_calls amounts <<END
   > add 1|2 m;1|3 m
   > plus 1|2 m;1|3 m
   > add 1|2 m;1|3 m^1|2
@@ -100,7 +100,7 @@ Sums and differences: the exponents have to be equal, which is tested before the
   2
   2
 
-  $ test_values amounts <<END
+  $ test_calls amounts <<END
   > sub 1|2 m;1|3 m
   > minus 1|2 m;1|3 m
   > sub 1|2 m;1|3 m^1|2
@@ -125,7 +125,7 @@ Sums and differences: the exponents have to be equal, which is tested before the
 
 If two quantities do not conform, both are reported with all their names.
 
-  $ test_values amounts <<END
+  $ test_calls amounts <<END
   > add 2 m;3 s
   > plus 2 m;3 s
   > END
@@ -135,7 +135,7 @@ If two quantities do not conform, both are reported with all their names.
 Powers with a fraction as exponent: its numerator is a power of the number and its denominator a root, and each exponent
 is multiplied by it. It has to be a number without names, which is tested first.
 
-  $ test_values amounts <<END
+  $ test_calls amounts <<END
   > pow 1 m;32767
   > raised 1 m;32767
   > pow 1 m;32768
@@ -220,7 +220,7 @@ is multiplied by it. It has to be a number without names, which is tested first.
 
 Names are sorted by their bytes. Those with negative exponents follow a slash.
 
-  $ test_values amounts <<END
+  $ test_calls amounts <<END
   > copy 1 m^2 s^-2 mol^-1 kg K^-1
   > digits 8;1 m^2 s^-2 mol^-1 kg K^-1
   > END
@@ -229,7 +229,7 @@ Names are sorted by their bytes. Those with negative exponents follow a slash.
 
 Numbers and exponents, to eight digits and exactly.
 
-  $ test_values amounts <<END
+  $ test_calls amounts <<END
   > digits 8;1|2 m^-1
   > copy 1|2 m^-1
   > digits 8;1 m^1|2
@@ -254,7 +254,7 @@ Numbers and exponents, to eight digits and exactly.
 
 Copies, negations, and the exponent of a name.
 
-  $ test_values amounts <<END
+  $ test_calls amounts <<END
   > digits 8;2|3 m^-3|2
   > copy 2|3 m^-3|2
   > digits 8;-2|3 m^-3|2
@@ -274,7 +274,7 @@ Copies, negations, and the exponent of a name.
 Two quantities conform if each name has the same exponent in both. They are reciprocal if each name has opposite
 exponents.
 
-  $ test_values amounts <<END
+  $ test_calls amounts <<END
   > conforms 2 m^1|2;2 m^1|2
   > reciprocal 2 m^1|2;2 m^1|2
   > conforms 2 m^1|2;3 m^-1|2
@@ -297,7 +297,7 @@ exponents.
 
 Lines that are not calls.
 
-  $ test_values amounts <<END
+  $ test_calls amounts <<END
   > half 3
   > mul 2
   > copy

@@ -1,11 +1,11 @@
-Replies, as `test_tables answers` gives them. The first line, `load FILE`, loads a deck. `convert FROM to TO` and
+Replies, as `test_calls answers` gives them. The first line, `load FILE`, loads a deck. `convert FROM to TO` and
 `define FROM` print a reply, and `value FROM` the exact value of FROM. `options WORD..` sets the options for the
 following calls: `exact`, `strict`, `one-line`, `compact`, `quiet`, `round`, `verbose` and a number of digits. The line
 `refused` follows a refused reply, and a fault in place of a value.
 
 A conversion to a unit, in each layout.
 
-  $ test_tables answers <<END
+  $ test_calls answers <<END
   > load $BUILTIN
   > convert 10 meters to feet
   > convert   10 meters   to 	feet 
@@ -65,7 +65,7 @@ A conversion to a unit, in each layout.
 
 The number of digits, from 1 to 36, and exact numbers, which it does not affect.
 
-  $ test_tables answers <<END
+  $ test_calls answers <<END
   > load $BUILTIN
   > options 3
   > convert 10 meters to feet
@@ -111,7 +111,7 @@ The number of digits, from 1 to 36, and exact numbers, which it does not affect.
 
 The second number of a conversion of 0 is `inf`. A conversion to 0 is a division by zero.
 
-  $ test_tables answers <<END
+  $ test_calls answers <<END
   > load $BUILTIN
   > convert 0 m to ft
   > convert tempF(-459.67) to K
@@ -152,7 +152,7 @@ The second number of a conversion of 0 is `inf`. A conversion to 0 is a division
 
 Reciprocal conversions, in each layout. A fault is reported without the line `reciprocal conversion`.
 
-  $ test_tables answers <<END
+  $ test_calls answers <<END
   > load $BUILTIN
   > convert 2 Hz to s
   > convert sqrt(m) to 1/sqrt(m)
@@ -212,7 +212,7 @@ Reciprocal conversions, in each layout. A fault is reported without the line `re
 
 Units that do not conform. Numbers conform to numbers. With `strict` there is no reciprocal conversion.
 
-  $ test_tables answers <<END
+  $ test_calls answers <<END
   > load $BUILTIN
   > options strict
   > convert 2 Hz to s
@@ -275,7 +275,7 @@ Units that do not conform. Numbers conform to numbers. With `strict` there is no
 A TO that is the name of a function, an alias or a table, in each layout. A name with anything after it is an
 expression.
 
-  $ test_tables answers <<END
+  $ test_calls answers <<END
   > load $BUILTIN
   > convert tempF(45) to tempC
   > convert tempcelsius(100) to tempF
@@ -345,7 +345,7 @@ As TO, a name means a function before a list, and a list before a unit. The argu
   > t[m] 1 5, 2 5, 3 4
   > back[m] 3 1, 4 -1
   > END
-  $ test_tables answers <<END
+  $ test_calls answers <<END
   > load names.units
   > convert 4 m to gauge
   > convert 4 m to pair
@@ -390,7 +390,7 @@ As TO, a name means a function before a list, and a list before a unit. The argu
 
 A TO that is a list, by its name or with semicolons, in each layout.
 
-  $ test_tables answers <<END
+  $ test_calls answers <<END
   > load $BUILTIN
   > convert 1.4 m to ft;in
   > convert 1.4 m to   ft ;  in  
@@ -469,7 +469,7 @@ without the name of the list.
   > !unitlist one m
   > !unitlist spread  m ; 1|10   m
   > END
-  $ test_tables answers <<END
+  $ test_calls answers <<END
   > load lists.units
   > convert m to nosuch;m+
   > convert m to m;
@@ -561,7 +561,7 @@ precedes the value, except in a compact reply.
   > d 3  (m  +  m)  # of all
   > p- 7
   > END
-  $ test_tables answers <<END
+  $ test_calls answers <<END
   > load texts.units
   > define m
   > define rad
@@ -606,7 +606,7 @@ precedes the value, except in a compact reply.
   \tDefinition: 3|2 m (esc)
   \tDefinition: 1|6 m (esc)
 
-  $ test_tables answers <<END
+  $ test_calls answers <<END
   > load $BUILTIN
   > define 1/2 m
   > define m/s s/day
@@ -687,7 +687,7 @@ The text of each fault is the whole reply, in every layout.
   > f_1(x) x
   > $(for i in $(seq 2 17); do echo "f_$i(x) f_$((i - 1))(x)"; done)
   > END
-  $ test_tables answers <<END
+  $ test_calls answers <<END
   > load faults.units
   > define 2 +
   > define
@@ -794,7 +794,7 @@ The text of each fault is the whole reply, in every layout.
 Faults of FROM come before those of TO. A syntax error comes before a fault of a name, and this before one of the value.
 The quantities of a fault are written as the options say.
 
-  $ test_tables answers <<END
+  $ test_calls answers <<END
   > load faults.units
   > convert nosuch to 2 +
   > convert 1/0 to 2 +
@@ -858,7 +858,7 @@ The quantities of a fault are written as the options say.
 
 `value` is exact whatever the options are. Only the quantities of a fault depend on them.
 
-  $ test_tables answers <<END
+  $ test_calls answers <<END
   > load $BUILTIN
   > value 2 ft
   > value   2 ft  
@@ -887,7 +887,7 @@ The quantities of a fault are written as the options say.
 
 Lines that are no calls, and calls without a deck.
 
-  $ test_tables answers <<END
+  $ test_calls answers <<END
   > load $BUILTIN
   > 
   > load $BUILTIN
@@ -902,13 +902,13 @@ Lines that are no calls, and calls without a deck.
   bad call
   bad call
 
-  $ test_tables answers <<END
+  $ test_calls answers <<END
   > load none.units
   > define m
   > END
   no deck
 
-  $ test_tables answers <<END
+  $ test_calls answers <<END
   > define m
   > END
   no deck

@@ -1,11 +1,11 @@
-Reports on all definitions, by `test_tables answers`. The first call, `load FILE`, loads a deck. `check` answers a line
+Reports on all definitions, by `test_calls answers`. The first call, `load FILE`, loads a deck. `check` answers a line
 for each key that has a fault, `search TEXT` a row for each key whose name contains TEXT, and `conformable FROM` a row
 for each unit that conforms to FROM. If a fault takes the place of a report, `refused` follows it. `options` sets the
 options of replies.
 
 The built-in definitions have no faults.
 
-  $ test_tables answers <<END
+  $ test_calls answers <<END
   > load $BUILTIN
   > check
   > options
@@ -34,7 +34,7 @@ reported for each of their names.
   > later nosuch
   > later 7 m
   > END
-  $ test_tables answers <<END
+  $ test_calls answers <<END
   > load names.units
   > check
   > define two
@@ -104,7 +104,7 @@ sum.
   > off gauge(4)
   > good gauge(2) square(3 m)
   > END
-  $ test_tables answers <<END
+  $ test_calls answers <<END
   > load values.units
   > check
   > options exact
@@ -170,7 +170,7 @@ unchanged.
   > pf- 2 f(3)
   > f(x) pfm x
   > END
-  $ test_tables answers <<END
+  $ test_calls answers <<END
   > load prefixes.units
   > check
   > END
@@ -214,7 +214,7 @@ this order, and then those of the values of both units. The expressions themselv
   > rung ring(3)
   > inner(x) 2 refused(x)
   > END
-  $ test_tables answers <<END
+  $ test_calls answers <<END
   > load functions.units
   > check
   > END
@@ -239,7 +239,7 @@ A rank that is too high is not a fault of the function, but of each unit that ca
   >   for i in $(seq 2 17); do echo "f_$i(x) f_$((i - 1))(x)"; done
   >   printf '%s\n' 'deep f_17(1)' 'less f_16(1)' 'to() f_17' 'deeper to(1)'
   > } > deep.units
-  $ test_tables answers <<END
+  $ test_calls answers <<END
   > load deep.units
   > check
   > END
@@ -269,7 +269,7 @@ Aliases and tables. An alias has no unit of its own, so the check covers only th
   > flat[0 m] 1 2, 3 4
   > to() sum
   > END
-  $ test_tables answers <<END
+  $ test_calls answers <<END
   > load tables.units
   > check
   > END
@@ -311,7 +311,7 @@ first part is reported, then the first that is not above 0. An unknown word of a
   > !unitlist l m;1|2 m;1|3 m
   > !unitlist m m
   > END
-  $ test_tables answers <<END
+  $ test_calls answers <<END
   > load lists.units
   > check
   > END
@@ -352,7 +352,7 @@ last definition in force counts.
   > aa 3 m
   > !endlocale
   > END
-  $ test_tables answers <<END
+  $ test_calls answers <<END
   > load order.units
   > check
   > search a
@@ -388,7 +388,7 @@ A search finds the text anywhere in a name, and only in names. It evaluates noth
   > mil 5 m
   > milli- 1|1000
   > END
-  $ test_tables answers <<END
+  $ test_calls answers <<END
   > load search.units
   > search mil
   > search in
@@ -425,7 +425,7 @@ A search finds the text anywhere in a name, and only in names. It evaluates noth
   no matching names
   no matching names
 
-  $ test_tables answers <<END
+  $ test_calls answers <<END
   > load $BUILTIN
   > search temp
   > search tempC()
@@ -446,7 +446,7 @@ A search finds the text anywhere in a name, and only in names. It evaluates noth
   no matching names
 
   $ printf '' > empty.units
-  $ test_tables answers <<END
+  $ test_calls answers <<END
   > load empty.units
   > check
   > search 
@@ -460,7 +460,7 @@ A search finds the text anywhere in a name, and only in names. It evaluates noth
 
 The units that conform to a quantity. Only units that have a value are listed. The size of the quantity does not matter.
 
-  $ test_tables answers <<END
+  $ test_calls answers <<END
   > load search.units
   > conformable 2 s
   > conformable   0 m  
@@ -492,7 +492,7 @@ The units that conform to a quantity. Only units that have a value are listed. T
   syntax error at 0
   refused
 
-  $ test_tables answers <<END
+  $ test_calls answers <<END
   > load $BUILTIN
   > conformable 3 K
   > conformable tempC(20)
@@ -531,7 +531,7 @@ The units that conform to a quantity. Only units that have a value are listed. T
   > p- sqrt(m)
   > !unitlist l m
   > END
-  $ test_tables answers <<END
+  $ test_calls answers <<END
   > load fractions.units
   > conformable sqrt(m)
   > conformable odd

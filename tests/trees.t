@@ -1,8 +1,8 @@
-Expressions, and the tree or the fault of each, found by hand. `test_values texts` reads one call a line; these
+Expressions, and the tree or the fault of each, found by hand. `test_calls texts` reads one call a line; these
 functions write each text before its answer. A tree has its kind before its parts, words are in brackets, `[]` is the
 argument, and a numeral is its digits and a power of ten.
 
-  $ answers() { while IFS= read -r text; do printf '%s => ' "$text"; printf '%s\n' "$1 $text" | test_values texts; done; }
+  $ answers() { while IFS= read -r text; do printf '%s => ' "$text"; printf '%s\n' "$1 $text" | test_calls texts; done; }
   $ trees() { answers plain; }
   $ bound() { answers "with $1"; }
   $ naming() { answers name; }
@@ -39,7 +39,7 @@ Empty texts, and texts with a part that is no word, numeral or mark.
   sin2 => syntax error at 0
   2 ; 3 => syntax error at 2
   2[3] => syntax error at 1
-  $ printf 'plain a\001b\n' | test_values texts
+  $ printf 'plain a\001b\n' | test_calls texts
   syntax error at 1
 
 Tokens in wrong places, and texts that end too early.
@@ -112,7 +112,7 @@ The first fault is reported. A numeral is reported as too long only if a numeral
   ) 1e10000 => syntax error at 0
   ~1e10000 => syntax error at 1
   170141183460469231731687303715884105728 => numeral too long
-  $ printf 'plain \t1e39 \n' | test_values texts
+  $ printf 'plain \t1e39 \n' | test_calls texts
   1e39
 
 Numerals and words: a point after a blank begins a numeral, the parenthesis of a call directly follows the name, and a
@@ -232,7 +232,7 @@ distinguished.
 A name has at most 255 bytes, and a word with a power has at most 256.
 
   $ repeated() { yes -- "$2" | head -n "$1" | tr -d '\n'; }
-  $ verdict() { printf 'parse %s\n' "$1" | test_values texts; }
+  $ verdict() { printf 'parse %s\n' "$1" | test_calls texts; }
   $ verdict "$(repeated 255 a)"
   tree
   $ verdict "$(repeated 255 a)2"
@@ -267,7 +267,7 @@ A token is at most 64 deep. Parentheses, signs and powers add to the depth; a po
 
 The words of a tree from left to right, each after its use as a call or an inverse, and the tree of a copy.
 
-  $ test_values texts <<'END'
+  $ test_calls texts <<'END'
   > words a + b(c2 / ~d(2 - 1)) sqrt(-e) ^ 2 | 3 (f 3) g * 4
   > words 2 + 1|2
   > words 2 +
@@ -329,17 +329,17 @@ Names, words that are no names, and refused names. A byte above 127 may be part 
   log2 => refused name
   sinn => name
 
-  $ printf 'name m\310\n' | test_values texts
+  $ printf 'name m\310\n' | test_calls texts
   name
 
 A million operands are parsed, copied, listed and freed without a nested call for each.
 
   $ for pattern in 'm ' m+ 'm*' m-; do
-  >     { printf 'words '; repeated 1000000 "$pattern"; echo m; } | test_values texts | wc -w
+  >     { printf 'words '; repeated 1000000 "$pattern"; echo m; } | test_calls texts | wc -w
   > done
   1000002
   1000002
   1000002
   1000002
-  $ { printf 'copy '; repeated 1000000 'm '; echo m; } | test_values texts | wc -w
+  $ { printf 'copy '; repeated 1000000 'm '; echo m; } | test_calls texts | wc -w
   1000002

@@ -1,5 +1,5 @@
 #!/usr/bin/env python3
-"""Refuses each allocation of the program of crates/test_tables in turn, over each edit of a live table, and over each
+"""Refuses each allocation of the program of crates/test_calls in turn, over each edit of a live table, and over each
 kind of edit that a history takes back and makes again.
 
     tools/checks/check_edits.py
@@ -131,7 +131,7 @@ def is_right(command, program, case):
 
 
 def main():
-    path = built("test_tables")
+    path = built("test_calls")
     passed = failed = 0
     with tempfile.TemporaryDirectory() as folder:
         os.chdir(folder)

@@ -4,7 +4,7 @@
     tools/comparisons/compare_decks.py [DECKS] [SEED]
 
 Makes DECKS sets of small files (300 by default) from SEED (1 by default), with includes, blocks, variables, faulty
-lines and continuations. The program of crates/test_decks loads one, edits it and answers calls after each edit. Each
+lines and continuations. The program of crates/test_calls loads one, edits it and answers calls after each edit. Each
 answer is compared with that of plain lists, which are searched in full. Prints the first differences and a line with
 the counts. The status is 1 if there is a difference.
 
@@ -26,7 +26,7 @@ from built import program  # noqa: E402
 from decks_at_random import EDITS, LEAVES, NAMES, random_calls, random_file  # noqa: E402
 from plain_decks import Board, joined  # noqa: E402
 
-PROGRAM, KIND = "test_decks", "decks"
+PROGRAM, KIND = "test_calls", "decks"
 SHOWN = 5  # how many differences are printed
 
 

@@ -3,7 +3,7 @@
 
     tools/comparisons/compare_edges.py [CALLS] [SEED]
 
-The program of crates/test_decks answers CALLS calls (10,000 by default) over a few nodes from SEED (1 by default).
+The program of crates/test_calls answers CALLS calls (10,000 by default) over a few nodes from SEED (1 by default).
 Each answer is compared with that of a list that is searched in full. Prints the first differences and a line with the
 counts. The status is 1 if there is a difference.
 
@@ -21,7 +21,7 @@ from pathlib import Path
 sys.path.insert(0, str(Path(__file__).resolve().parents[1]))
 from built import program  # noqa: E402
 
-PROGRAM, KIND = "test_decks", "edges"
+PROGRAM, KIND = "test_calls", "edges"
 NODES = 12
 SHOWN = 5  # how many differences are printed
 

@@ -3,7 +3,7 @@
 
     tools/comparisons/compare_live.py [TABLES] [SEED]
 
-The program of crates/test_tables answers queries of TABLES tables (400 by default) from SEED (1 by default), with
+The program of crates/test_calls answers queries of TABLES tables (400 by default) from SEED (1 by default), with
 cycles, prefixes, plurals, functions, aliases, tables of points and lists; then queries with edits between them. Each
 answer and the counts after each query and edit are compared with those of the recursion. Then a ring of 20,000 names
 and a chain of 60,000 are compared in the same way.
@@ -37,14 +37,14 @@ from plain_lines import Refusal, need  # noqa: E402
 from plain_live import LARGE, Live, entries_of  # noqa: E402
 from plain_quantities import Fault  # noqa: E402
 
-PROGRAM, KIND = "test_tables", "values"
+PROGRAM, KIND = "test_calls", "values"
 SHOWN = 5  # how many differences are printed
 RING, CHAIN = 20_000, 60_000
 EDITS = ["define", "drop", "switch", "append", "splice", "back"]
 
 
 class Board:
-    """Answers calls as `test_tables values` does."""
+    """Answers calls as `test_calls values` does."""
 
     def __init__(self, load):
         """Loads the table of a line, or stores why there is none."""

@@ -3,7 +3,7 @@
 
     tools/comparisons/compare_numbers.py [CALLS] [SEED]
 
-The program of crates/test_values answers CALLS calls of each kind (100,000 by default) from SEED (1 by default), near
+The program of crates/test_calls answers CALLS calls of each kind (100,000 by default) from SEED (1 by default), near
 the limits of the libraries. Each answer is compared with the one that Python's int, Fraction and Decimal give. Prints
 a line for each kind and the first differences. The status is 1 if there is a difference.
 """
@@ -35,7 +35,7 @@ from numbers_at_limits import (  # noqa: E402
     whole,
 )
 
-PROGRAM, KIND = "test_values", "numbers"
+PROGRAM, KIND = "test_calls", "numbers"
 MOST_EXPONENT = 9_999  # the largest exponent of a numeral
 SHOWN = 5  # how many differences of a kind are printed
 NUMBER = re.compile(r"-?[0-9.]+(\|[0-9]+|e[+-][0-9]+)?")

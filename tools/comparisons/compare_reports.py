@@ -3,7 +3,7 @@
 
     tools/comparisons/compare_reports.py [TABLES] [SEED]
 
-The program of crates/test_tables checks TABLES tables (400 by default) from SEED (1 by default), with lists of parts
+The program of crates/test_calls checks TABLES tables (400 by default) from SEED (1 by default), with lists of parts
 that are unlike or not above 0, searches each for every byte of its names and for other texts, and lists the units that
 conform to random expressions. Each answer is compared with that of the recursion.
 
@@ -40,7 +40,7 @@ from plain_live import Live  # noqa: E402
 from plain_quantities import Fault  # noqa: E402
 from plain_tables import Alias, Points  # noqa: E402
 
-PROGRAM, KIND = "test_tables", "answers"
+PROGRAM, KIND = "test_calls", "answers"
 SHOWN = 5  # how many differences are printed
 PARTS = ["m", "2 m", "0 m", "-1 m", "1|2 a", "a", "s", "b / 0", "1e20 1e20", "nosuch", "sin(2)", "ab", "fa(2)", "3"]
 

@@ -3,7 +3,7 @@
 
     tools/comparisons/compare_trees.py [LONGEST] [RANDOM] [SEED]
 
-The program of crates/test_values parses all token lists up to the length LONGEST (5 by default), and RANDOM longer
+The program of crates/test_calls parses all token lists up to the length LONGEST (5 by default), and RANDOM longer
 ones (200,000 by default) from SEED (1 by default). Each tree or fault is compared with the one that the rules of
 tools/models/plain_trees.py give. Prints a line for each kind of list and the first differences. The status is 1 if
 there is a difference.
@@ -20,7 +20,7 @@ sys.path[:0] = [str(Path(__file__).resolve().parents[1] / name) for name in ("."
 from built import program  # noqa: E402
 from plain_trees import DEEPEST, MARKS, Token, first_fault, opened, sum_tree  # noqa: E402
 
-PROGRAM, KIND = "test_values", "texts"
+PROGRAM, KIND = "test_calls", "texts"
 SHOWN = 5  # how many differences of a kind are printed
 BATCH = 200_000  # how many lines one run of the program gets
 

@@ -1,5 +1,5 @@
 #!/usr/bin/env bash
-# Reads the definitions of GNU units with the program of crates/test_values, and prints each line that it refuses.
+# Reads the definitions of GNU units with the program of crates/test_calls, and prints each line that it refuses.
 #   tools/comparisons/read_definitions.sh [FILE]
 # FILE is that of Debian's package units by default. For the definitions of GNU units 2.22, the status is 1 if the
 # refused lines are not those below; with any other file the script only prints them.
@@ -10,7 +10,7 @@ if [ ! -r "$file" ]; then
     echo "read_definitions: no file $file; on Debian: apt-get install units" >&2
     exit 1
 fi
-program=$("$root/tools/built.sh" test_values) || exit
+program=$("$root/tools/built.sh" test_calls) || exit
 folder=$(mktemp -d)
 trap 'rm -rf "$folder"' EXIT
 

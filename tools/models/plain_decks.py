@@ -1,4 +1,4 @@
-"""Decks as lists that are searched in full, and the answers of `test_decks decks` over them."""
+"""Decks as lists that are searched in full, and the answers of `test_calls decks` over them."""
 
 import os
 import re
@@ -180,7 +180,7 @@ def joined(items):
 
 
 class Board:
-    """Answers calls as `test_decks decks` does. Changed keys are sorted like all keys."""
+    """Answers calls as `test_calls decks` does. Changed keys are sorted like all keys."""
 
     def __init__(self):
         self.locale, self.vars = "en_US", {}

@@ -4,7 +4,7 @@ use Rattle.std.specs.List.{list_any, position, position_or_len}
 use Rattle.std.proofs.lemmas.Bool.{lt-ltb, ltb_from_iff, ltb-true}
 use Rattle.def_entry.specs.Keys.{key}
 use Rattle.def_entry.specs.SameKeys.{is_same_entry_key}
-use Rattle.test_values.proofs.lookup.TablePresent.find.Goals as goal
+use Rattle.test_calls.proofs.lookup.TablePresent.find.Goals as goal
 
 module _ {A : Type 0} (p : A → Bool) where
   -- the first place that passes is inside the list exactly if an element passes

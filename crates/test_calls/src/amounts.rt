@@ -4,8 +4,8 @@ use crate::amount_calls::{AmountCall, Copying, Operator, Pair, Relation, amount_
 use crate::amount_reading::{parted, read_quantity};
 use crate::amount_text::{put_exponent, put_quantity, put_result, put_truth};
 use crate::lists::put_split;
+use crate::point_tables::put_reading;
 use crate::reading::read_count;
-use crate::tables::put_reading;
 use quantity::{Quantity, QuantityFault, Style};
 use std::alloc::{AllocError, Global};
 use test_lines::{AnswerWriter, CallFault, split_at_space};

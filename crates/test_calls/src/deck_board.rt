@@ -3,6 +3,7 @@
 use crate::deck_calls::{Call, Edit, KeyQuery, Load, Query, Setting, read_call};
 use crate::deck_queries::{put_key_query, put_query};
 use crate::deck_texts::{put_changes, put_fault};
+use crate::edit_calls::settings_of;
 use deck::{Deck, DeckFault, Settings, Splice};
 use def_entry::Keys;
 use std::alloc::{AllocError, Global};
@@ -29,7 +30,7 @@ pub(crate) fn deck_answers<F: Files + Drop>(
     files: F,
     lines: &[u8],
 ) -> Result<Vec<u8>, AllocError> {
-    let settings = first_settings(alloc)?;
+    let settings = settings_of(alloc, b"en_US")?;
     let mut board = Board {
         files,
         deck: None,
@@ -42,13 +43,6 @@ pub(crate) fn deck_answers<F: Files + Drop>(
     // The process ends next, so the decks need not be freed.
     mem::forget(board);
     out.into_text()
-}
-
-// Returns the settings before the first call.
-fn first_settings(alloc: Global) -> Result<Settings, AllocError> {
-    let locale = Text::from_bytes(alloc, b"en_US")?;
-    let vars = Vars::new(alloc);
-    Ok(Settings { locale, vars })
 }
 
 impl<F: Files + Drop> Answers for Board<F> {

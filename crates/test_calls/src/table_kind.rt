@@ -1,4 +1,4 @@
-//! The kinds of calls, and the load before them.
+//! The kinds of calls on a live table, and the load before them.
 
 use crate::edit_calls::settings_of;
 use crate::history_board::history_answers;
@@ -9,12 +9,11 @@ use def_entry::cut_at;
 use live_table::LiveTable;
 use std::alloc::{AllocError, Global};
 use std::sync::ledger::Ledger;
-use test_lines::meaning_of;
 use units_io::{Files, Steps};
 
-// A kind of calls.
+// A kind of calls on a live table.
 #[derive(Clone, Copy)]
-pub(crate) enum Kind {
+pub(crate) enum TableKind {
     // Queries and edits of a live table.
     Values,
     // Edits with their history.
@@ -23,25 +22,13 @@ pub(crate) enum Kind {
     Answers,
 }
 
-// The names of kinds.
-const NAMES: &[(&[u8], Kind)] = &[
-    (b"values", Kind::Values),
-    (b"history", Kind::History),
-    (b"answers", Kind::Answers),
-];
-
-// Returns the kind with this name.
-pub(crate) fn read_kind(name: &[u8]) -> Option<Kind> {
-    meaning_of(NAMES, name)
-}
-
 // Returns the answers to the lines. The first line, `load FILE`, loads a deck; if that fails, its answer is the only
 // one. Fails only if memory runs out.
-pub(crate) fn answers_to<F: Files + Drop, L: Ledger>(
+pub(crate) fn table_answers<F: Files + Drop, L: Ledger>(
     alloc: Global,
     mut files: F,
     steps: Steps<L>,
-    kind: Kind,
+    kind: TableKind,
     lines: &[u8],
 ) -> Result<Vec<u8>, AllocError> {
     let (first, calls) = cut_at(lines, b'\n').unwrap_or((lines, b""));
@@ -50,9 +37,9 @@ pub(crate) fn answers_to<F: Files + Drop, L: Ledger>(
     };
     match load(alloc, &mut files, name) {
         Ok(live) => match kind {
-            Kind::Values => value_answers(alloc, files, live, steps, calls),
-            Kind::History => history_answers(alloc, files, live, steps, calls),
-            Kind::Answers => reply_answers(alloc, live, steps, calls),
+            TableKind::Values => value_answers(alloc, files, live, steps, calls),
+            TableKind::History => history_answers(alloc, files, live, steps, calls),
+            TableKind::Answers => reply_answers(alloc, live, steps, calls),
         },
         Err(fault) => load_fault_answer(alloc, kind, &fault),
     }
@@ -66,7 +53,11 @@ fn load<F: Files>(alloc: Global, files: &mut F, name: &[u8]) -> Result<LiveTable
 }
 
 // Returns a line that says why the load of a file failed.
-fn load_fault_answer(alloc: Global, kind: Kind, fault: &DeckFault) -> Result<Vec<u8>, AllocError> {
+fn load_fault_answer(
+    alloc: Global,
+    kind: TableKind,
+    fault: &DeckFault,
+) -> Result<Vec<u8>, AllocError> {
     match fault {
         DeckFault::OutOfMemory => Err(AllocError),
         fault => Vec::from_slice(alloc, load_fault_text(kind, fault)),
@@ -74,12 +65,12 @@ fn load_fault_answer(alloc: Global, kind: Kind, fault: &DeckFault) -> Result<Vec
 }
 
 // Returns a line that says why the load of a file failed. Calls for values have an answer for each reason.
-fn load_fault_text(kind: Kind, fault: &DeckFault) -> &'static [u8] {
+fn load_fault_text(kind: TableKind, fault: &DeckFault) -> &'static [u8] {
     match (kind, fault) {
-        (Kind::History | Kind::Answers, _) => b"no deck\n",
-        (Kind::Values, DeckFault::Absent) => b"absent\n",
-        (Kind::Values, DeckFault::TooLong) => b"too long\n",
-        (Kind::Values, DeckFault::ReadFailed) => b"read failed\n",
-        (Kind::Values, _) => b"deck full\n",
+        (TableKind::History | TableKind::Answers, _) => b"no deck\n",
+        (TableKind::Values, DeckFault::Absent) => b"absent\n",
+        (TableKind::Values, DeckFault::TooLong) => b"too long\n",
+        (TableKind::Values, DeckFault::ReadFailed) => b"read failed\n",
+        (TableKind::Values, _) => b"deck full\n",
     }
 }

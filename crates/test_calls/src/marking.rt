@@ -10,7 +10,7 @@ pub(crate) struct Marking {
 }
 
 impl Marks for Marking {
-    ghost use Rattle.test_decks.specs.Marks.{has_mark};
+    ghost use Rattle.test_calls.specs.Marks.{has_mark};
 
     ghost is_marked = { λ marking node. has_mark marking.are_marked.items node };
 

@@ -1,5 +1,5 @@
 use Rattle.reply.specs.Options.{AreReplyOptionsPrintable}
-use Rattle.test_tables.proofs.choice.read_options.Given as goal
+use Rattle.test_calls.proofs.choice.read_options.Given as goal
 
 abbrev pub invariant-loop-word : goal.invariant-loop-word
 invariant-loop-word l =

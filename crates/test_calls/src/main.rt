@@ -1,14 +1,36 @@
-//! Reads a load and then calls on the live table of its deck from standard input, one per line, and writes the answers
-//! to standard output. The first word of the command line names the kind of the calls. Loads read files from the file
-//! system.
+//! Reads calls of the libraries from standard input and writes their answers to standard output. The first word of the
+//! command line names the kind of the calls. Calls that load a file read it from the file system.
 #![tactic(auto)]
 
+mod amount_calls;
+mod amount_reading;
+mod amount_text;
+mod amounts;
 mod choice;
+mod deck_board;
+mod deck_calls;
+mod deck_queries;
+mod deck_texts;
+mod edge_board;
 mod edit_calls;
+mod entry_report;
+mod entry_text;
 mod history_board;
 mod history_texts;
 mod kind;
+mod lists;
+mod lookup;
+mod marking;
+mod notation;
+mod number_calls;
+mod numbers;
+mod point_tables;
+mod reading;
 mod reply_board;
+mod stateless_kind;
+mod table_kind;
+mod text_calls;
+mod texts;
 mod value_board;
 mod value_calls;
 mod value_texts;
@@ -43,8 +65,8 @@ fn main(rt: HostRuntime) -> io::Result<ExitCode> {
     let alloc = rt.alloc();
     let name = first_word(&rt, alloc)?;
     let Some(kind) = read_kind(&name) else {
-        let kinds = b"values, history and answers";
-        return refuse_kind(&mut rt.stderr(), b"test_tables", &name, kinds);
+        let kinds = b"numbers, amounts, texts, entries, decks, edges, values, history and answers";
+        return refuse_kind(&mut rt.stderr(), b"test_calls", &name, kinds);
     };
     let lines = read_all(alloc, &mut rt.reader())?;
     let mut output = io::writer(&rt);

@@ -18,9 +18,16 @@ struct RowCounts {
     refusals: usize,
 }
 
+// Returns the report on a file.
+pub(crate) fn report_on(alloc: Global, bytes: &[u8]) -> Result<Vec<u8>, AllocError> {
+    let mut out = AnswerWriter::new(alloc);
+    put_report(alloc, bytes, &mut out);
+    out.into_text()
+}
+
 // Appends the report on a file: a row for each definition and list, and the numbers of these rows and of refusals. If
 // the file is too long, the report is a message about this.
-pub(crate) fn put_report(alloc: Global, bytes: &[u8], out: &mut AnswerWriter) {
+fn put_report(alloc: Global, bytes: &[u8], out: &mut AnswerWriter) {
     if bytes.len() > LONGEST_FILE {
         return out.put(b"file too long\n");
     }

@@ -1,8 +1,8 @@
 use Rattle.std.proofs.Common.{◌+◌, ◌*◌}
 use Rattle.expr_tree.specs.Trees.{factors_syntax, members_syntax, syntax, syntax_of_factors, syntax_of_terms}
 use Rattle.expr_tree.specs.Trees.{syntax_of_trees, terms_syntax}
-use Rattle.test_values.proofs.Sizes.{factors_size, members_size, size, terms_size}
-use Rattle.test_values.proofs.notation.+put.Given as goal
+use Rattle.test_calls.proofs.Sizes.{factors_size, members_size, size, terms_size}
+use Rattle.test_calls.proofs.notation.+put.Given as goal
 
 abbrev pub decreases-put_tree : goal.decreases-put_tree
 decreases-put_tree l = 2 * size (syntax l.tree.now)
