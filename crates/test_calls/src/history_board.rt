@@ -42,7 +42,7 @@ const WORDS: &[(&[u8], Call)] = &[
 #[derive(Drop)]
 struct Board<F, L: Ledger> {
     files: F,
-    live: LiveTable,
+    live: Box<LiveTable>,
     history: History,
     steps: Steps<L>,
 }
@@ -51,7 +51,7 @@ struct Board<F, L: Ledger> {
 pub(crate) fn history_answers<F: Files + Drop, L: Ledger>(
     alloc: Global,
     files: F,
-    live: LiveTable,
+    live: Box<LiveTable>,
     steps: Steps<L>,
     calls: &[u8],
 ) -> Result<Vec<u8>, AllocError> {
@@ -71,7 +71,7 @@ pub(crate) fn history_answers<F: Files + Drop, L: Ledger>(
 impl<F: Files + Drop, L: Ledger> Answers for Board<F, L> {
     ghost use Rattle.edit_history.specs.Histories.{IsHistoryOf};
 
-    ghost is_ready = { λ board. IsHistoryOf board.history board.live.deck };
+    ghost is_ready = { λ board. IsHistoryOf board.history board.live.value.deck };
 
     fn put_answer(
         &mut self,
@@ -94,12 +94,12 @@ impl<F: Files + Drop, L: Ledger> Board<F, L> {
 
     // Appends the answer to a call.
     fn put_call(&mut self, alloc: Global, call: Call, argument: &[u8], out: &mut AnswerWriter)
-        requires { IsHistoryOf self.old.history self.old.live.deck }
-        ensures { IsHistoryOf self.new.history self.new.live.deck }
+        requires { IsHistoryOf self.old.history self.old.live.value.deck }
+        ensures { IsHistoryOf self.new.history self.new.live.value.deck }
     {
         match call {
-            Call::Value => put_value(alloc, &mut self.live, argument, &mut self.steps, out),
-            Call::Lines => put_lines(&self.live, out),
+            Call::Value => put_value(alloc, &mut *self.live, argument, &mut self.steps, out),
+            Call::Lines => put_lines(&*self.live, out),
             Call::Edit(edit) => self.put_edit(alloc, edit, argument, out),
             Call::Undo => self.put_undone(alloc, out),
             Call::Redo => self.put_redone(alloc, out),
@@ -108,28 +108,28 @@ impl<F: Files + Drop, L: Ledger> Board<F, L> {
 
     // Makes an edit.
     fn put_edit(&mut self, alloc: Global, edit: Edit, argument: &[u8], out: &mut AnswerWriter)
-        requires { IsHistoryOf self.old.history self.old.live.deck }
-        ensures { IsHistoryOf self.new.history self.new.live.deck }
+        requires { IsHistoryOf self.old.history self.old.live.value.deck }
+        ensures { IsHistoryOf self.new.history self.new.live.value.deck }
     {
         let made = match edit {
-            Edit::Define => self.history.define(alloc, &mut self.live, argument),
+            Edit::Define => self.history.define(alloc, &mut *self.live, argument),
             Edit::DropLast => return self.put_drop(alloc, argument, out),
             Edit::Switch => return self.put_switch(alloc, argument, out),
             Edit::Append => self
                 .history
-                .append(alloc, &mut self.live, &mut self.files, argument),
+                .append(alloc, &mut *self.live, &mut self.files, argument),
         };
         out.put(edit_text(&made));
     }
 
     // Puts a locale in force.
     fn put_switch(&mut self, alloc: Global, locale: &[u8], out: &mut AnswerWriter)
-        requires { IsHistoryOf self.old.history self.old.live.deck }
-        ensures { IsHistoryOf self.new.history self.new.live.deck }
+        requires { IsHistoryOf self.old.history self.old.live.value.deck }
+        ensures { IsHistoryOf self.new.history self.new.live.value.deck }
     {
         match settings_of(alloc, locale) {
             Ok(settings) => {
-                let made = self.history.switch(alloc, &mut self.live, settings);
+                let made = self.history.switch(alloc, &mut *self.live, settings);
                 out.put(edit_text(&made));
             }
             Err(AllocError) => out.leave_out(),
@@ -138,12 +138,12 @@ impl<F: Files + Drop, L: Ledger> Board<F, L> {
 
     // Drops the last line of the key that `text` names.
     fn put_drop(&mut self, alloc: Global, text: &[u8], out: &mut AnswerWriter)
-        requires { IsHistoryOf self.old.history self.old.live.deck }
-        ensures { IsHistoryOf self.new.history self.new.live.deck }
+        requires { IsHistoryOf self.old.history self.old.live.value.deck }
+        ensures { IsHistoryOf self.new.history self.new.live.value.deck }
     {
         match key_in(alloc, text) {
             Ok(Some(key)) => {
-                let made = self.history.drop_last(alloc, &mut self.live, &key);
+                let made = self.history.drop_last(alloc, &mut *self.live, &key);
                 out.put(edit_text(&made));
             }
             Ok(None) => out.put(b"no key"),
@@ -153,19 +153,19 @@ impl<F: Files + Drop, L: Ledger> Board<F, L> {
 
     // Undoes the last edit.
     fn put_undone(&mut self, alloc: Global, out: &mut AnswerWriter)
-        requires { IsHistoryOf self.old.history self.old.live.deck }
-        ensures { IsHistoryOf self.new.history self.new.live.deck }
+        requires { IsHistoryOf self.old.history self.old.live.value.deck }
+        ensures { IsHistoryOf self.new.history self.new.live.value.deck }
     {
-        let undone = self.history.undo(alloc, &mut self.live);
+        let undone = self.history.undo(alloc, &mut *self.live);
         out.put(undone_text(undone));
     }
 
     // Redoes the last edit that was undone.
     fn put_redone(&mut self, alloc: Global, out: &mut AnswerWriter)
-        requires { IsHistoryOf self.old.history self.old.live.deck }
-        ensures { IsHistoryOf self.new.history self.new.live.deck }
+        requires { IsHistoryOf self.old.history self.old.live.value.deck }
+        ensures { IsHistoryOf self.new.history self.new.live.value.deck }
     {
-        let redone = self.history.redo(alloc, &mut self.live);
+        let redone = self.history.redo(alloc, &mut *self.live);
         out.put(undone_text(redone));
     }
 }

@@ -45,7 +45,7 @@ const WORDS: &[(&[u8], Call)] = &[
 // The state between calls: the table, the options for the following calls, and the steps of queries.
 #[derive(Drop)]
 struct Board<L: Ledger> {
-    live: LiveTable,
+    live: Box<LiveTable>,
     options: Options,
     steps: Steps<L>,
 }
@@ -54,7 +54,7 @@ struct Board<L: Ledger> {
 // in place of a value or a report, are followed by a line that marks the refusal.
 pub(crate) fn reply_answers<L: Ledger>(
     alloc: Global,
-    live: LiveTable,
+    live: Box<LiveTable>,
     steps: Steps<L>,
     calls: &[u8],
 ) -> Result<Vec<u8>, AllocError> {
@@ -140,7 +140,7 @@ impl<L: Ledger> Board<L> {
         let Some((from, to)) = cut_at_to(text) else {
             return Err(CallFault::BadCall);
         };
-        let (live, steps) = (&mut self.live, &mut self.steps);
+        let (live, steps) = (&mut *self.live, &mut self.steps);
         let reply = convert_reply(alloc, live, &self.options, from, to, steps);
         put_reply(reply, out);
         Ok(())
@@ -151,7 +151,7 @@ impl<L: Ledger> Board<L> {
         requires { AreReplyOptionsPrintable self.old.options }
         ensures { AreReplyOptionsPrintable self.new.options }
     {
-        let (live, steps) = (&mut self.live, &mut self.steps);
+        let (live, steps) = (&mut *self.live, &mut self.steps);
         let reply = definition_reply(alloc, live, &self.options, from, steps);
         put_reply(reply, out);
     }
@@ -161,14 +161,14 @@ impl<L: Ledger> Board<L> {
         requires { AreReplyOptionsPrintable self.old.options }
         ensures { AreReplyOptionsPrintable self.new.options }
     {
-        let (live, steps) = (&mut self.live, &mut self.steps);
+        let (live, steps) = (&mut *self.live, &mut self.steps);
         let reply = conformable_reply(alloc, live, &self.options, from, steps);
         put_reply(reply, out);
     }
 
     // Appends the report on a search.
     fn put_search(&self, alloc: Global, text: &[u8], out: &mut AnswerWriter) {
-        out.put_text(search_report(alloc, &self.live, text));
+        out.put_text(search_report(alloc, &*self.live, text));
     }
 
     // Appends the report of the check.
@@ -176,7 +176,7 @@ impl<L: Ledger> Board<L> {
         requires { AreReplyOptionsPrintable self.old.options }
         ensures { AreReplyOptionsPrintable self.new.options }
     {
-        let report = check_report(alloc, &mut self.live, &self.options, &mut self.steps);
+        let report = check_report(alloc, &mut *self.live, &self.options, &mut self.steps);
         out.put_text(report);
     }
 
@@ -185,7 +185,7 @@ impl<L: Ledger> Board<L> {
         requires { AreReplyOptionsPrintable self.old.options }
         ensures { AreReplyOptionsPrintable self.new.options }
     {
-        let (live, steps) = (&mut self.live, &mut self.steps);
+        let (live, steps) = (&mut *self.live, &mut self.steps);
         match from_value(alloc, live, &self.options, from, steps) {
             Ok(value) => put_from_value(alloc, &value, out),
             Err(AllocError) => out.leave_out(),

@@ -45,11 +45,12 @@ pub(crate) fn table_answers<F: Files + Drop, L: Ledger>(
     }
 }
 
-// Loads the table of a file.
-fn load<F: Files>(alloc: Global, files: &mut F, name: &[u8]) -> Result<LiveTable, DeckFault> {
+// Loads the table of a file. It is in a box, since a function that reaches a field of a struct is proved with the layout
+// of all its fields.
+fn load<F: Files>(alloc: Global, files: &mut F, name: &[u8]) -> Result<Box<LiveTable>, DeckFault> {
     let settings = settings_of(alloc, b"en_US")?;
     let deck = Deck::load(alloc, files, name, settings)?;
-    Ok(LiveTable::new(alloc, deck))
+    Ok(Box::new(alloc, LiveTable::new(alloc, deck))?)
 }
 
 // Returns a line that says why the load of a file failed.

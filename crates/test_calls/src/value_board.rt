@@ -18,7 +18,7 @@ use units_io::{Files, Steps};
 #[derive(Drop)]
 struct Board<F, L: Ledger> {
     files: F,
-    live: LiveTable,
+    live: Box<LiveTable>,
     back: Option<Splice>,
     steps: Steps<L>,
 }
@@ -27,7 +27,7 @@ struct Board<F, L: Ledger> {
 pub(crate) fn value_answers<F: Files + Drop, L: Ledger>(
     alloc: Global,
     files: F,
-    live: LiveTable,
+    live: Box<LiveTable>,
     steps: Steps<L>,
     calls: &[u8],
 ) -> Result<Vec<u8>, AllocError> {
@@ -73,16 +73,16 @@ impl<F: Files + Drop, L: Ledger> Board<F, L> {
     ) -> Result<(), CallFault> {
         match call {
             ValueCall::Splice => return self.put_splice(alloc, argument, out),
-            ValueCall::Value => put_value(alloc, &mut self.live, argument, &mut self.steps, out),
+            ValueCall::Value => put_value(alloc, &mut *self.live, argument, &mut self.steps, out),
             ValueCall::Unapply => put_inverse(
                 alloc,
-                &mut self.live,
+                &mut *self.live,
                 argument,
                 &mut self.steps,
                 out,
             ),
             ValueCall::Settle => self.put_settled(alloc, out),
-            ValueCall::Counts => put_counts(&self.live, out),
+            ValueCall::Counts => put_counts(&*self.live, out),
             ValueCall::Edit(edit) => self.put_edit(alloc, edit, argument, out),
             ValueCall::Back => self.put_back(alloc, out),
         }
@@ -98,9 +98,9 @@ impl<F: Files + Drop, L: Ledger> Board<F, L> {
     // Makes an edit.
     fn put_edit(&mut self, alloc: Global, edit: Edit, argument: &[u8], out: &mut AnswerWriter) {
         match edit {
-            Edit::DropLast => put_drop(alloc, &mut self.live, argument, out),
+            Edit::DropLast => put_drop(alloc, &mut *self.live, argument, out),
             Edit::Define => put_made(self.live.define(alloc, argument), out),
-            Edit::Switch => put_switch(alloc, &mut self.live, argument, out),
+            Edit::Switch => put_switch(alloc, &mut *self.live, argument, out),
             Edit::Append => put_made(self.live.append(alloc, &mut self.files, argument), out),
         }
     }
@@ -112,7 +112,7 @@ impl<F: Files + Drop, L: Ledger> Board<F, L> {
         argument: &[u8],
         out: &mut AnswerWriter,
     ) -> Result<(), CallFault> {
-        let splice = read_splice(alloc, argument, &self.live)?;
+        let splice = read_splice(alloc, argument, &*self.live)?;
         self.back = None;
         self.put_spliced(alloc, splice, out);
         Ok(())
