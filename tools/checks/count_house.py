@@ -7,7 +7,7 @@
 The counts: lines (by kind), arguments (functions with more than five besides self), clauses (those that ten functions
 or more have), names (definitions of two crates with one name, operators aside), participles (functions and definitions
 named by a single participle), citations (imports of another crate's proofs that cite more than its laws), unused
-(lemmas that no file names). Test programs (`test_*`, `run_faults`) count only in `lines`. `general_lemmas` is there to
+(lemmas that no file names). Test programs (`test_*`) count only in `lines`. `general_lemmas` is there to
 be cited.
 """
 
@@ -38,7 +38,7 @@ IRREGULAR = {
 
 
 def is_product(crate: str) -> bool:
-    return not crate.startswith("test_") and crate != "run_faults"
+    return not crate.startswith("test_")
 
 
 @lru_cache
