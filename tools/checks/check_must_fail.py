@@ -3,17 +3,16 @@
 
     tools/checks/check_must_fail.py [--anew] [EDIT..]
 
-EDIT is CRATE/NAME; without it, all edits of tests/must_fail are tried. An edit is applied to a copy of the crate, and
-the prover checks one function of the copy over the libraries that `rt ci` built. A start of the prover costs more than
-most functions, so the edits of the bodies of different functions are tried in one run: no proof depends on another
-function's body. An edit that is not refused as expected there is tried again alone. tests/must_fail/refused_by.tsv has
-the edit, the function, and the part of the function that has to refuse the edit:
+EDIT is CRATE/NAME; without it, all edits of tests/must_fail are tried. An edit changes the body of one function. It is
+applied to a copy of the crate, and the prover checks the function over the libraries that `rt ci` built. A start of the
+prover costs more than most functions, so the edits of a crate are tried in one run: they change different functions, and
+no proof depends on another function's body. An edit that is not refused as expected there is tried again alone.
+tests/must_fail/refused_by.tsv has the edit, the function, and the part of the function that has to refuse the edit:
 
     ensures, or ensures CLAUSE      a clause on its result
     requires CALLEE [CLAUSE]        a clause that it has to meet when it calls CALLEE
     invariant                       the invariant of a struct
     loop LABEL                      an invariant or the measure of a loop
-    FILE NAME                       a lemma of proofs/FILE.antt, which its proof cites
 
 An edit that passed is not tried again until a file that it depends on changes: `~/.cache/units/must_fail` (or below
 XDG_CACHE_HOME) has the checksums. With --anew it is tried in any case. `rt ci` tries edits too, if they are in a folder
@@ -70,10 +69,7 @@ class Row:
 
     @property
     def expected(self) -> Refusal:
-        """The part belongs to the function, unless it names a file of lemmas."""
-        owner, _, lemma = self.part.partition(" ")
-        is_file = bool(lemma) and (ROOT / "crates" / self.crate / "proofs" / f"{owner}.antt").exists()
-        return Refusal(owner, lemma) if is_file else Refusal(self.function_name, self.part)
+        return Refusal(self.function_name, self.part)
 
 
 @dataclass(frozen=True)
@@ -124,27 +120,15 @@ def is_in_function(row: Row, replacement: Replacement) -> bool:
 
 
 def changes_one_body(row: Row) -> bool:
-    is_own = row.expected.owner == row.function_name
-    return is_own and all(is_in_function(row, it) for it in read_edit(row.edit))
+    return all(is_in_function(row, it) for it in read_edit(row.edit))
 
 
 def runs_of(rows: list[Row]) -> list[list[Row]]:
-    """The rows to be tried together: the edits of one crate that each change the body of another function."""
-    runs: list[list[Row]] = []
-    shared: dict[str, list[list[Row]]] = {}
+    """The rows to be tried together: those of one crate."""
+    runs: dict[str, list[Row]] = {}
     for row in rows:
-        if not changes_one_body(row):
-            runs.append([row])
-            continue
-        others = shared.setdefault(row.crate, [])
-        free = (run for run in others if all(it.function_name != row.function_name for it in run))
-        run = next(free, None)
-        if run is None:
-            run = []
-            others.append(run)
-            runs.append(run)
-        run.append(row)
-    return runs
+        runs.setdefault(row.crate, []).append(row)
+    return list(runs.values())
 
 
 @functools.lru_cache(maxsize=None)
@@ -222,11 +206,19 @@ def refused_together(rows: list[Row], kit: Path, libraries: dict[str, list[str]]
 
 
 def faults_of_table(rows: list[Row]) -> dict[str, str]:
-    """The edits that only the table or only the folder has."""
+    """The edits that only the table or only the folder has, and those that share a run but cannot."""
     edits = {f"{path.parent.name}/{path.stem}" for path in EDITS.glob("*/*.edit")}
     named = {row.edit for row in rows}
-    missing = {edit: "tests/must_fail/refused_by.tsv does not have it" for edit in edits - named}
-    return missing | {edit: "there is no such edit" for edit in named - edits}
+    faults = {edit: "tests/must_fail/refused_by.tsv does not have it" for edit in edits - named}
+    faults |= {edit: "there is no such edit" for edit in named - edits}
+    functions: set[tuple[str, str]] = set()
+    for row in rows:
+        if row.edit in edits and not changes_one_body(row):
+            faults[row.edit] = f"it changes more than the body of {row.function}"
+        elif (row.crate, row.function_name) in functions:
+            faults[row.edit] = f"another edit changes {row.function}"
+        functions.add((row.crate, row.function_name))
+    return faults
 
 
 def record_pass(file: Path, edit: str) -> None:
