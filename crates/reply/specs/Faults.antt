@@ -1,10 +1,10 @@
--- The texts of faults, each one line with no tab before it and no line feed after it.
+-- The texts of the faults of conversions, each one line with no tab before it and no line feed after it.
 use Rattle.std.specs.Prelude.{◌++◌, ◌+◌, ℕ, Bool, true, false, List, codes}
 use Rattle.std.specs.Fmt.{decimal}
 use Rattle.expr_tree.specs.declared.fault.ParseFault.TheVariants as parse
 use Rattle.def_entry.specs.Faults.{parse_fault_text}
 use Rattle.digits_print.specs.declared.style.Style.{Style}
-use Rattle.fault_texts.specs.Texts.{name_fault_text, value_fault_text}
+use Rattle.reply.specs.FaultTexts.{name_fault_text, value_fault_text}
 use Rattle.reply.specs.declared.fault.ReplyFault.{ReplyFault}
 use Rattle.reply.specs.declared.fault.ReplyFault.TheVariants.{Parse, Name, Value, List as ListUnit}
 

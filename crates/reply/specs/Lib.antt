@@ -7,6 +7,7 @@ pub mod Conversions
 pub mod Layouts
 pub mod Lines
 pub mod Subjects
+pub mod FaultTexts
 pub mod Faults
 pub mod Replies
 pub mod Calls

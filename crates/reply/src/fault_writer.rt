@@ -7,11 +7,12 @@ ghost use Rattle.reply.specs.Options.{AreReplyOptionsPrintable, reply_style};
 
 use crate::fault::ReplyFault;
 use crate::form::Form;
+use crate::name_faults::put_name_fault;
 use crate::options::Options;
 use crate::text_writer::put_words;
+use crate::value_faults::put_value_fault;
 use def_entry::parse_fault_text;
 use digits_print::Style;
-use fault_texts::{put_name_fault, put_value_fault};
 use std::alloc::{AllocError, Global};
 use units_io::Text;
 

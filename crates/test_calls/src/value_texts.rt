@@ -8,9 +8,9 @@ ghost use Rattle.deck.specs.Tables.{table_of_deck};
 
 use def_entry::Kind;
 use expr_tree::{Tree, parse_expr};
-use fault_texts::{put_name_fault, put_value_fault};
 use live_table::{LiveTable, QueryFault};
 use quantity::{Quantity, Style};
+use reply::{put_name_fault, put_value_fault};
 use std::alloc::Global;
 use std::sync::ledger::Ledger;
 use test_lines::{AnswerWriter, put_parse_refusal, split_at_space};

@@ -3,9 +3,9 @@
 ghost use Rattle.std.specs.Prelude.{◌≡◌, ◌++◌, OnOk};
 ghost use Rattle.digits_print.specs.Styles.{IsPrintStyle};
 ghost use Rattle.quantity.specs.Text.{quantity_text};
-ghost use Rattle.fault_texts.specs.Texts as spec;
+ghost use Rattle.reply.specs.FaultTexts as spec;
 
-use crate::text_parts::put_named;
+use crate::fault_parts::put_named;
 use quantity::{Quantity, Style};
 use std::alloc::{AllocError, Global};
 use tree_eval::ValueFault;
@@ -47,12 +47,12 @@ fn put_unlike_sum(
     requires { IsPrintStyle style }
     ensures { OnOk result (text.new.items ≡ text.old.items ++ spec.unlike_sum_fault_text style x.now y.now) }
 {
-    put_shown(alloc, text, b"sum of unlike units: ", style, x)?;
-    put_shown(alloc, text, b" and ", style, y)
+    put_summand(alloc, text, b"sum of unlike units: ", style, x)?;
+    put_summand(alloc, text, b" and ", style, y)
 }
 
 // Appends words and a quantity.
-fn put_shown(
+fn put_summand(
     alloc: Global,
     text: &mut Vec<u8>,
     words: &[u8],

@@ -3,9 +3,9 @@
 ghost use Rattle.std.specs.Prelude.{◌≡◌, ◌++◌, OnOk};
 ghost use Rattle.std.specs.List.{flat_map};
 ghost use Rattle.def_entry.specs.Keys.{key_text};
-ghost use Rattle.fault_texts.specs.Texts as spec;
+ghost use Rattle.reply.specs.FaultTexts as spec;
 
-use crate::text_parts::put_named;
+use crate::fault_parts::put_named;
 use def_entry::{Key, put_key};
 use std::alloc::AllocError;
 use table_names::NameFault;

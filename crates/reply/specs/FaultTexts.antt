@@ -1,4 +1,4 @@
--- The texts of faults, each one line with no tab before it and no line feed after it.
+-- The texts of name faults and value faults, each one line with no tab before it and no line feed after it.
 use Rattle.std.specs.Prelude.{◌++◌, ℕ, List, [], ◌∷◌, codes, Option, Some, None}
 use Rattle.std.specs.List.{flat_map}
 use Rattle.frac128.specs.Faults.{frac_fault_text as number_fault_text}

@@ -1,4 +1,4 @@
-//! The parts of fault texts.
+//! The parts of the texts of name faults and value faults.
 
 ghost use Rattle.std.specs.Prelude.{◌≡◌, ◌++◌, OnOk};
 

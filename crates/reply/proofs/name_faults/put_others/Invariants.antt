@@ -1,7 +1,7 @@
 use Rattle.std.proofs.Common.{◌≡◌, ◌++◌, drop}
 use Rattle.std.specs.List.{flat_map}
-use Rattle.fault_texts.specs.Texts.{fault_arrow_text}
-use Rattle.fault_texts.proofs.names.put_others.Given as goal
+use Rattle.reply.specs.FaultTexts.{fault_arrow_text}
+use Rattle.reply.proofs.name_faults.put_others.Given as goal
 
 -- the text so far with the keys that are left is the text with all keys
 abbrev pub invariant-loop-key : goal.invariant-loop-key
