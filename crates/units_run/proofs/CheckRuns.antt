@@ -3,7 +3,6 @@ use Rattle.std.proofs.Common.{◌≡◌, ◌∙◌, ◌+◌, [], inl, ℕ, List,
 use Rattle.units_io.specs.Bytes.{sink_bytes_append, SinkGrowsByPrefix}
 use Rattle.units_io.specs.FileMap.{FileMap}
 use Rattle.std.specs.declared.option.Option.{Option}
-use Rattle.column_run.proofs.Writing.{column_run_sink_grows_by_none}
 use Rattle.def_lines.specs.Words.{is_empty}
 use Rattle.session.specs.HeardLines.{heard_lines}
 use Rattle.session.specs.Input.{input_lines}
@@ -20,6 +19,7 @@ use Rattle.units_run.specs.declared.status.Status.{Status}
 use Rattle.units_run.specs.declared.status.Status.TheVariants.{Done, Refused, Usage, NoFile, ReadFault, WriteFault}
 use Rattle.units_run.specs.declared.status.Status.TheVariants.{NoMemory, InputTooLong}
 use Rattle.units_run.proofs.PlanRuns.{plan_course, plan_end, unwritten_run_output_is_front}
+use Rattle.units_run.proofs.WrittenBytes.{column_run_sink_grows_by_none}
 
 -- a check with a stated ending has done all its work
 pub check_run_work_is_done : (bytes : List ℕ) (ending : Status) (before after : Option (List ℕ))

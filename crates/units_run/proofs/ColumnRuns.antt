@@ -12,18 +12,18 @@ use Rattle.session.specs.KnownContents.{next_session_value_if_known}
 use Rattle.column_convert.specs.Inputs.{column_input_of_text}
 use Rattle.column_convert.specs.Rows.{queries, rows}
 use Rattle.column_convert.specs.Blocks.{is_error_row}
-use Rattle.column_run.specs.Outputs.{AreColumnRunRowsWritten, is_column_run_over}
-use Rattle.column_run.specs.Tasks.{column_run_queries_of_bytes, column_run_rows_of_bytes}
-use Rattle.column_run.specs.declared.end.ColumnEnd.{ColumnEnd}
-use Rattle.column_run.specs.declared.end.ColumnEnd.TheVariants as column
-use Rattle.column_run.specs.declared.task.ColumnTask.{ColumnTask}
 use Rattle.session.proofs.Blocks.{all_session_output_is_front}
 use Rattle.units_run.specs.Calls.{column_run, run_column_rows, run_column_steps}
+use Rattle.units_run.specs.ColumnOutputs.{AreColumnRunRowsWritten, is_column_run_over}
+use Rattle.units_run.specs.ColumnTasks.{column_run_queries_of_bytes, column_run_rows_of_bytes}
 use Rattle.units_run.specs.Endings.{IsPlanOutput, IsRunColumnOutput, IsStatedRunEnd, IsWorkedRunEnd, RunMayEnd}
 use Rattle.units_run.specs.Endings.{run_status_of_column_end}
 use Rattle.units_run.specs.ProgramPlans.{IsColumnPlan, IsPlan}
 use Rattle.units_run.specs.Plans as plans
 use Rattle.units_run.specs.Plans.{PlannedColumnWork}
+use Rattle.units_run.specs.declared.column_end.ColumnEnd.{ColumnEnd}
+use Rattle.units_run.specs.declared.column_end.ColumnEnd.TheVariants as column
+use Rattle.units_run.specs.declared.column_task.ColumnTask.{ColumnTask}
 use Rattle.units_run.specs.declared.column_plan.ColumnPlan.{ColumnPlan}
 use Rattle.units_run.specs.declared.plan.Plan.TheVariants.{Columns}
 use Rattle.units_run.specs.declared.status.Status.{Status}

@@ -1,7 +1,6 @@
 -- The output that a planned run writes first.
 use Rattle.std.proofs.Common.{◌≡◌, ◌∙◌, ◌⊎◌, [], inl, inr, ℕ, List, subst, sym}
 use Rattle.std.specs.declared.option.Option.{Option}
-use Rattle.column_run.proofs.Writing.{column_run_sink_grows_by_none}
 use Rattle.session.specs.Outside.{SessionSinkGrowsAtLeast}
 use Rattle.session.specs.Sessions.{SessionState}
 use Rattle.session.specs.declared.session_output.OutputBuffers.{OutputBuffers}
@@ -15,6 +14,7 @@ use Rattle.units_run.specs.declared.column_plan.ColumnPlan.{ColumnPlan}
 use Rattle.units_run.specs.declared.plan.Plan.TheVariants.{Whole, Check, Opened, Columns}
 use Rattle.units_run.specs.declared.status.Status.{Status}
 use Rattle.units_run.proofs.PlanRuns.{run_sink_has_grown_by_its_bytes}
+use Rattle.units_run.proofs.WrittenBytes.{column_run_sink_grows_by_none}
 
 -- with a whole plan, `err` has all its bytes before `out` has any
 pub whole_plan_err_before_out : {A : Type 0} (want : plans.Plan) (m : FileMap) (buffers : OutputBuffers)

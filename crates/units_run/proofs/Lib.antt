@@ -1,5 +1,6 @@
 pub mod BuiltInDeck
 pub mod CheckRuns
+mod ColumnBlocks
 pub mod ColumnRuns
 pub mod FileRuns
 pub mod GrantedRuns
@@ -13,3 +14,5 @@ pub mod PlanRuns
 pub mod Statuses
 pub mod DeckPlans
 pub mod SessionFiles
+mod TakenBytes
+mod WrittenBytes

@@ -35,8 +35,8 @@ use Rattle.units_run.specs.declared.plan.Plan.TheVariants.{Whole, Opened, Column
 use Rattle.units_run.specs.declared.status.Status.{Status}
 use Rattle.units_run.specs.declared.status.Status.TheVariants.{Done, Refused, Usage, NoFile, ReadFault, WriteFault}
 use Rattle.units_run.specs.declared.status.Status.TheVariants.{NoMemory, InputTooLong}
-use Rattle.column_run.proofs.Writing.{column_run_sink_grows_by_none}
 use Rattle.units_run.proofs.SessionFiles.{SeesFiles}
+use Rattle.units_run.proofs.WrittenBytes.{column_run_sink_grows_by_none}
 
 -- the status of a whole plan is a stated ending
 pub run_may_end_as_stated : (taken file session : Bool) (status : Status) → RunMayEnd taken file session status

@@ -7,8 +7,6 @@ use Rattle.std.proofs.lemmas.Grind.{flat_map-append}
 use Rattle.std.proofs.lemmas.Bool.Decides.{nat_tests}
 use Rattle.std.proofs.lemmas.List.{append-nil, take-append-drop, take_rest}
 use Rattle.std.proofs.lemmas.Bool.{true≢false}
-use Rattle.column_run.proofs.Writing.{column_run_front_of_all, column_run_front_of_both, column_run_front_of_more}
-use Rattle.column_run.proofs.Writing.{column_run_sink_grows_by_none, column_run_sink_grows_twice}
 use Rattle.def_entry.specs.declared.key.Key.{Key}
 use Rattle.def_lines.specs.Words.{is_empty}
 use Rattle.deck.specs.Decks.{DeckContents}
@@ -23,6 +21,8 @@ use Rattle.reply.specs.declared.options.Options.{Options}
 use Rattle.units_io.specs.Bytes.{sink_bytes_append, SinkGrowsByPrefix}
 use Rattle.units_run.specs.Checks.{IsRunReportWritten}
 use Rattle.units_run.specs.declared.status.Status.TheVariants.{Done, Refused}
+use Rattle.units_run.proofs.WrittenBytes.{column_run_front_of_all, column_run_front_of_both, column_run_front_of_more}
+use Rattle.units_run.proofs.WrittenBytes.{column_run_sink_grows_by_none, column_run_sink_grows_twice}
 
 -- the keys at two lists of places, one after the other
 run_report_keys_of_both : (deck : DeckContents) (xs ys : List ℕ)

@@ -9,11 +9,11 @@ use Rattle.session.specs.WrittenOutput.{SessionOutput, output_of_session_course}
 use Rattle.units_io.specs.Bytes.{SinkGrowsByPrefix}
 use Rattle.session.specs.declared.over_source.SessionEnd.{SessionEnd}
 use Rattle.session.specs.declared.over_source.SessionEnd.TheVariants as end
-use Rattle.column_run.specs.declared.end.ColumnEnd.{ColumnEnd}
-use Rattle.column_run.specs.declared.end.ColumnEnd.TheVariants as column
 use Rattle.units_run.specs.Calls.{RunArguments, plan_for, run_course, run_of}
 use Rattle.units_run.specs.Plans.{Plan, Columns}
 use Rattle.units_run.specs.Needs.{run_loads_file, run_opens_session}
+use Rattle.units_run.specs.declared.column_end.ColumnEnd.{ColumnEnd}
+use Rattle.units_run.specs.declared.column_end.ColumnEnd.TheVariants as column
 use Rattle.units_run.specs.declared.status.Status.{Status}
 use Rattle.units_run.specs.declared.status.Status.TheVariants as status
 use Rattle.units_run.specs.declared.status.Status.TheVariants.{ReadFault, WriteFault, NoMemory, InputTooLong}

@@ -1,6 +1,9 @@
 pub mod CommandReply
 pub mod Calls
 pub mod Checks
+pub mod ColumnEndings
+pub mod ColumnOutputs
+pub mod ColumnTasks
 pub mod Definitions
 pub mod Endings
 pub mod Examples

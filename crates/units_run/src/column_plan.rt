@@ -1,6 +1,6 @@
 //! The plan of a column conversion.
 
-use column_run::ColumnTask;
+use crate::column_task::ColumnTask;
 
 /// A column of the input to be converted, and the notices of the definitions, which are written first.
 pub struct ColumnPlan {

@@ -8,9 +8,9 @@ ghost use Rattle.units_io.specs.Faults.{HasIoCountRisen};
 ghost use Rattle.units_run.specs.Endings as spec;
 ghost use Rattle.units_run.specs.ProgramPlans as planning;
 
+use crate::column_end::ColumnEnd;
 use crate::column_plan::ColumnPlan;
 use crate::status::Status;
-use column_run::ColumnEnd;
 use session::leaves_law;
 use std::alloc::Global;
 use std::mem;

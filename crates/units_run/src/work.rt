@@ -11,11 +11,11 @@ ghost use Rattle.units_run.specs.Work as spec;
 
 use crate::check_plan::CheckPlan;
 use crate::column_plan::ColumnPlan;
+use crate::column_task::ColumnTask;
 use crate::command_reply::ask;
 use crate::options::options_of;
 use crate::plan::Plan;
 use crate::status::Status;
-use column_run::ColumnTask;
 use command_line::CommandLine;
 use deck::Deck;
 use def_lines::line_content;

@@ -2,12 +2,12 @@ use Rattle.std.proofs.Common.{◌∙◌, List, inl, inr, refl, sym, ap, subst, a
 use Rattle.units_io.specs.Bytes.{sink_bytes_append, SinkGrowsByPrefix}
 use Rattle.session.specs.Outside.{SessionOutside}
 use Rattle.column_convert.specs.Rows.{ColumnRow}
-use Rattle.column_run.specs.Outputs.{AreColumnRunRowsWritten}
-use Rattle.column_run.proofs.Writing.{column_run_sink_grows_by_none}
+use Rattle.units_run.specs.ColumnOutputs.{AreColumnRunRowsWritten}
 use Rattle.units_run.specs.Calls.{column_run}
 use Rattle.units_run.specs.Endings.{IsRunColumnOutput, IsStatedRunEnd, IsWorkedRunEnd}
 use Rattle.units_run.specs.declared.status.Status.{Status}
 use Rattle.units_run.proofs.ColumnRuns.{converted, rows_same, stated_column_end_is_worked_run, steps_same}
+use Rattle.units_run.proofs.WrittenBytes.{column_run_sink_grows_by_none}
 use Rattle.units_run.proofs.column_plan.ColumnPlan.convert_column.Goals as goal
 
 pub returns-in_default-clause-if_known : goal.returns-in_default-clause-if_known

@@ -3,10 +3,10 @@
 ghost use Rattle.std.specs.Prelude.{◌≡◌, ◌≤◌, ◌<◌, [], List, ℕ, Some, IfErr, IfOk, IsErrOf, OnOk, length};
 ghost use Rattle.units_io.specs.Faults.{HasIoCountRisen};
 ghost use Rattle.session.specs.Outside.{SessionTookMoreThan};
-ghost use Rattle.column_run.specs.Endings.{IsColumnRunInputCutOff};
-ghost use Rattle.column_run.specs.declared.end.ColumnEnd.TheVariants as end;
+ghost use Rattle.units_run.specs.ColumnEndings.{IsColumnRunInputCutOff};
+ghost use Rattle.units_run.specs.declared.column_end.ColumnEnd.TheVariants as end;
 
-use crate::end::ColumnEnd;
+use crate::column_end::ColumnEnd;
 use std::alloc::Global;
 use units_io::{Source, Text};
 

@@ -21,7 +21,7 @@ pub enum ColumnEnd {
 
 impl From<AllocError> for ColumnEnd {
     ghost use Rattle.std.specs.Prelude.{◌≡◌};
-    ghost use Rattle.column_run.specs.declared.end.ColumnEnd.TheVariants.{NoMemory};
+    ghost use Rattle.units_run.specs.declared.column_end.ColumnEnd.TheVariants.{NoMemory};
 
     ghost from_gives = { λ _ end. end ≡ NoMemory };
 
@@ -32,7 +32,7 @@ impl From<AllocError> for ColumnEnd {
 
 impl<T: Drop> From<AllocFailed<T>> for ColumnEnd {
     ghost use Rattle.std.specs.Prelude.{◌≡◌};
-    ghost use Rattle.column_run.specs.declared.end.ColumnEnd.TheVariants.{NoMemory};
+    ghost use Rattle.units_run.specs.declared.column_end.ColumnEnd.TheVariants.{NoMemory};
 
     ghost from_gives = { λ _ end. end ≡ NoMemory };
 

@@ -1,4 +1,4 @@
--- Rows given in blocks.
+-- Rows of a column in blocks.
 use Rattle.std.proofs.Common.{◌≡◌, ◌<◌, ◌-◌, ◌++◌, ◌∷◌, ◌||◌, ◌∙◌, [], ℕ, zero, suc, Bool, false, List}
 use Rattle.std.proofs.Common.{refl, sym, ap, length, take, subst, append_assoc, arith}
 use Rattle.std.specs.declared.option.Option.{Option}
@@ -17,8 +17,8 @@ use Rattle.column_convert.specs.declared.block.Block.{Block}
 use Rattle.column_convert.specs.Inputs.{ColumnInput, rest_of_column_input}
 use Rattle.column_convert.specs.Records.{RecordFields}
 use Rattle.column_convert.specs.Rows.{ColumnRow, queries, rows}
-use Rattle.column_run.proofs.Writing.{column_run_front_of_all, column_run_front_of_both, column_run_front_of_more}
-use Rattle.column_run.proofs.Writing.{column_run_sink_grows_by_none, column_run_sink_grows_twice}
+use Rattle.units_run.proofs.WrittenBytes.{column_run_front_of_all, column_run_front_of_both, column_run_front_of_more}
+use Rattle.units_run.proofs.WrittenBytes.{column_run_sink_grows_by_none, column_run_sink_grows_twice}
 
 -- ---- bytes and errors of rows, one after another
 column_run_text_of_both : (xs ys : List ColumnRow) → text_of_rows (xs ++ ys) ≡ text_of_rows xs ++ text_of_rows ys
@@ -87,7 +87,8 @@ module _ (options : Options) (from to : List ℕ) (whole : ColumnInput) (start :
   queries_at i = queries (table_of_deck before.deck) options from to i
 
   -- the rows before those left are written, and their queries were made
-  pub record IsUnderway (left : ColumnInput) (refused : Bool) (out : Option (List ℕ)) (now : LiveView) (new : ℕ)
+  pub record IsColumnRunUnderway (left : ColumnInput) (refused : Bool) (out : Option (List ℕ)) (now : LiveView)
+      (new : ℕ)
       : Type 0 where
     pub done : List ColumnRow
     pub events : List LiveEvent
@@ -98,8 +99,8 @@ module _ (options : Options) (from to : List ℕ) (whole : ColumnInput) (start :
     pub deck : now.deck ≡ before.deck
     pub follows : IsAfterLiveEvents events before now old new
 
-  pub underway_start : IsRightLiveView before → IsUnderway whole false start before old
-  underway_start right = record {
+  pub column_run_underway_start : IsRightLiveView before → IsColumnRunUnderway whole false start before old
+  column_run_underway_start right = record {
     done = [];
     events = [];
     gives = refl;
@@ -111,13 +112,13 @@ module _ (options : Options) (from to : List ℕ) (whole : ColumnInput) (start :
   }
 
   module _ (left : ColumnInput) (refused : Bool) (out : Option (List ℕ)) (now : LiveView) (new : ℕ)
-      (u : IsUnderway left refused out now new) where
+      (u : IsColumnRunUnderway left refused out now new) where
     text_now : text_of_rows (rows_at whole) ≡ text_of_rows u.done ++ text_of_rows (rows_at left)
     text_now = ap text_of_rows u.gives ∙ column_run_text_of_both u.done (rows_at left)
 
     -- the bytes written are a front of all
-    pub front_now : SinkGrowsByPrefix start out (text_of_rows (rows_at whole))
-    front_now =
+    pub column_run_front_now : SinkGrowsByPrefix start out (text_of_rows (rows_at whole))
+    column_run_front_now =
         column_run_front_of_more start out (text_of_rows u.done) (text_of_rows (rows_at left))
         (text_of_rows (rows_at whole)) text_now
         (column_run_front_of_all start out (text_of_rows u.done) u.out_is)
@@ -137,9 +138,9 @@ module _ (options : Options) (from to : List ℕ) (whole : ColumnInput) (start :
       block_is : block ≡ block_of_rows (rows_at (first_records n left))
       block_is = is ∙ ap (λ d. block_of_rows (rows (table_of_deck d) options from to (first_records n left))) u.deck
 
-      text_next : text_of_rows (rows_at whole)
+      column_text_next : text_of_rows (rows_at whole)
           ≡ (text_of_rows u.done ++ block.text) ++ text_of_rows (rows_at (column_input_after n left))
-      text_next =
+      column_text_next =
           text_now
           ∙ ap (λ (rs : List ColumnRow). text_of_rows u.done ++ text_of_rows rs)
           (law (table_of_deck before.deck) options from to n left).0
@@ -150,18 +151,19 @@ module _ (options : Options) (from to : List ℕ) (whole : ColumnInput) (start :
           ∙ sym (append_assoc (text_of_rows u.done) block.text (text_of_rows (rows_at (column_input_after n left))))
 
       -- if a front of the next block is written, too, the bytes written are still a front of all
-      pub front_next : (after : Option (List ℕ)) → SinkGrowsByPrefix out after block.text
+      pub column_run_front_next : (after : Option (List ℕ)) → SinkGrowsByPrefix out after block.text
           → SinkGrowsByPrefix start after (text_of_rows (rows_at whole))
-      front_next after f =
+      column_run_front_next after f =
           column_run_front_of_more start after (text_of_rows u.done ++ block.text)
           (text_of_rows (rows_at (column_input_after n left)))
-          (text_of_rows (rows_at whole)) text_next
+          (text_of_rows (rows_at whole)) column_text_next
           (column_run_front_of_both start out after (text_of_rows u.done) block.text u.out_is f)
 
       -- one more block is written
-      pub underway_next : (r : Bool) (after : Option (List ℕ)) → r ≡ (refused || block.refused)
-          → after ≡ sink_bytes_append out block.text → IsUnderway (column_input_after n left) r after later last
-      underway_next r after either all = record {
+      pub column_run_underway_next : (r : Bool) (after : Option (List ℕ)) → r ≡ (refused || block.refused)
+          → after ≡ sink_bytes_append out block.text
+          → IsColumnRunUnderway (column_input_after n left) r after later last
+      column_run_underway_next r after either all = record {
         done = u.done ++ rows_at (first_records n left);
         events = u.events ++ queries_at (first_records n left);
         gives =
@@ -215,14 +217,15 @@ module _ (options : Options) (from to : List ℕ) (whole : ColumnInput) (start :
       rows_over : rows_at whole ≡ u.done
       rows_over = u.gives ∙ ap (λ (rs : List ColumnRow). u.done ++ rs) over.0 ∙ append-nil u.done
 
-      pub whole_over : out ≡ sink_bytes_append start (text_of_rows (rows_at whole))
-      whole_over = u.out_is ∙ ap (λ (rs : List ColumnRow). sink_bytes_append start (text_of_rows rs)) (sym rows_over)
+      pub column_run_whole_over : out ≡ sink_bytes_append start (text_of_rows (rows_at whole))
+      column_run_whole_over =
+          u.out_is ∙ ap (λ (rs : List ColumnRow). sink_bytes_append start (text_of_rows rs)) (sym rows_over)
 
-      pub refused_over : refused ≡ is_error_row (rows_at whole)
-      refused_over = u.refused_is ∙ ap is_error_row (sym rows_over)
+      pub column_run_refused_over : refused ≡ is_error_row (rows_at whole)
+      column_run_refused_over = u.refused_is ∙ ap is_error_row (sym rows_over)
 
-      pub follows_over : IsAfterLiveEvents (queries_at whole) before later old last
-      follows_over =
+      pub column_run_follows_over : IsAfterLiveEvents (queries_at whole) before later old last
+      column_run_follows_over =
           subst (λ (es : List LiveEvent). IsAfterLiveEvents es before later old last)
           (ap (λ (es : List LiveEvent). u.events ++ es) (over.2 ∙ sym over.1) ∙ sym u.asks)
           (live_event_runs_in_turn u.events (queries_at (first_records (suc n) left)) before now later old new last

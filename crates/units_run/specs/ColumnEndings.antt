@@ -1,7 +1,7 @@
--- Endings of the parts of a run.
+-- Endings of the parts of a run over column input.
 use Rattle.std.specs.Prelude.{⊤}
-use Rattle.column_run.specs.declared.end.ColumnEnd.{ColumnEnd}
-use Rattle.column_run.specs.declared.end.ColumnEnd.TheVariants.{ReadFault, WriteFault, NoMemory, InputTooLong}
+use Rattle.units_run.specs.declared.column_end.ColumnEnd.{ColumnEnd}
+use Rattle.units_run.specs.declared.column_end.ColumnEnd.TheVariants.{ReadFault, WriteFault, NoMemory, InputTooLong}
 
 -- the input was not read in full
 abbrev pub IsColumnRunInputCutOff : ColumnEnd → Type 0

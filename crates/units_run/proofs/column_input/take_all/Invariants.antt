@@ -1,6 +1,6 @@
 use Rattle.std.proofs.Common.{◌≡◌, ◌++◌, ◌≤◌, ◌<◌, ◌-◌, List, ℕ, Some, length}
 use Rattle.session.specs.BetweenPieces.{SessionTookAtLeast}
-use Rattle.column_run.proofs.input.take_all.Given as goal
+use Rattle.units_run.proofs.column_input.take_all.Given as goal
 
 abbrev pub invariant-loop-src : goal.invariant-loop-src
 invariant-loop-src g l = record {

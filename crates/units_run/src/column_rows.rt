@@ -1,4 +1,4 @@
-//! Writing rows block by block.
+//! Writing the rows of a column block by block.
 
 ghost use Rattle.std.specs.Prelude.{◌≡◌, ◌||◌, ◌≤◌, IfErr, IfOk, IsErrOf, OnOk};
 ghost use Rattle.live_table.specs.TableView.{IsAfterLiveEvents};
@@ -6,12 +6,12 @@ ghost use Rattle.reply.specs.Options.{AreReplyOptionsPrintable};
 ghost use Rattle.units_io.specs.Bytes.{sink_bytes_append, SinkGrowsByPrefix};
 ghost use Rattle.units_io.specs.Faults.{HasIoCountRisen};
 ghost use Rattle.column_convert.specs.Blocks.{is_error_row, text_of_rows};
-ghost use Rattle.column_run.specs.Endings.{IsColumnRunStopped};
-ghost use Rattle.column_run.specs.Tasks as spec;
-ghost use Rattle.column_run.specs.declared.end.ColumnEnd.TheVariants as end;
+ghost use Rattle.units_run.specs.ColumnEndings.{IsColumnRunStopped};
+ghost use Rattle.units_run.specs.ColumnTasks as spec;
+ghost use Rattle.units_run.specs.declared.column_end.ColumnEnd.TheVariants as end;
 
-use crate::end::ColumnEnd;
-use crate::task::ColumnTask;
+use crate::column_end::ColumnEnd;
+use crate::column_task::ColumnTask;
 use column_convert::{Columns, blocks_law};
 use reply::Question;
 use std::alloc::Global;

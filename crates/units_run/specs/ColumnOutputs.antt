@@ -4,8 +4,8 @@ use Rattle.std.specs.declared.option.Option.{Option}
 pub use Rattle.column_convert.specs.Blocks.{is_error_row, text_of_rows}
 use Rattle.column_convert.specs.Rows.{ColumnRow}
 use Rattle.units_io.specs.Bytes.{sink_bytes_append, SinkGrowsByPrefix}
-use Rattle.column_run.specs.declared.end.ColumnEnd.{ColumnEnd}
-use Rattle.column_run.specs.declared.end.ColumnEnd.TheVariants.{Done, Refused, ReadFault, InputTooLong}
+use Rattle.units_run.specs.declared.column_end.ColumnEnd.{ColumnEnd}
+use Rattle.units_run.specs.declared.column_end.ColumnEnd.TheVariants.{Done, Refused, ReadFault, InputTooLong}
 
 -- how a run over these rows ends, apart from faults, limits and running out of memory
 abbrev pub column_run_end : List ColumnRow → ColumnEnd

@@ -5,12 +5,12 @@ ghost use Rattle.live_table.specs.TableView.{IsAfterLiveEvents};
 ghost use Rattle.reply.specs.Options.{AreReplyOptionsPrintable};
 ghost use Rattle.session.specs.Outside.{SessionTookMoreThan};
 ghost use Rattle.units_io.specs.Faults.{HasIoCountRisen};
-ghost use Rattle.column_run.specs.Outputs.{AreColumnRunRowsWritten, is_column_run_over};
-ghost use Rattle.column_run.specs.Tasks as spec;
+ghost use Rattle.units_run.specs.ColumnOutputs.{AreColumnRunRowsWritten, is_column_run_over};
+ghost use Rattle.units_run.specs.ColumnTasks as spec;
 
-use crate::end::ColumnEnd;
-use crate::input::read_input;
-use crate::task::ColumnTask;
+use crate::column_end::ColumnEnd;
+use crate::column_input::read_input;
+use crate::column_task::ColumnTask;
 use column_convert::Columns;
 use std::alloc::Global;
 use std::sync::ledger::Ledger;

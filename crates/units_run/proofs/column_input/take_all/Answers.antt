@@ -1,8 +1,8 @@
 use Rattle.std.proofs.Common.{◌++◌, ◌∙◌, List, ℕ, Some, inl, length, take, sym, ap, arith}
 use Rattle.session.proofs.Blocks.{known_session_input_is_lost, no_session_input_is_left, session_count_rose_earlier}
 use Rattle.session.proofs.Blocks.{session_took_more_than_limit}
-use Rattle.column_run.proofs.Taking.{took_bytes}
-use Rattle.column_run.proofs.input.take_all.Goals as goal
+use Rattle.units_run.proofs.TakenBytes.{took_bytes}
+use Rattle.units_run.proofs.column_input.take_all.Goals as goal
 use Rattle.general_lemmas.proofs.Parts.{front_whole, rejoined, no_rest}
 
 pub loop-src-init : goal.loop-src-init

@@ -1,3 +1,0 @@
-mod Rowing
-mod Taking
-pub mod Writing
