@@ -21,3 +21,8 @@ mod WaitingPlaces
 mod BackwardWalks
 mod WeightedSums
 mod SlotWrites
+mod LinkedNameEdges
+mod NameEdgeAdditions
+pub mod NameEdgeCuts
+mod NameNodes
+mod NodeHalves

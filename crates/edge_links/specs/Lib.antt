@@ -12,3 +12,7 @@ pub mod Rings
 pub mod PlaceView
 pub mod Times
 pub mod WaitingStack
+pub mod AffectedNames
+pub mod NameEdgeLaws
+pub mod NameGraphs
+pub mod NameNodes

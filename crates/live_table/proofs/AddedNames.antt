@@ -12,7 +12,7 @@ use Rattle.name_walk.specs.declared.step.Step.{Step}
 use Rattle.name_walk.specs.declared.step.Step.TheVariants.{Nowhere, To}
 use Rattle.name_walk.specs.ClosedNames.{IsSettledInGraph}
 use Rattle.table_names.specs.declared.fault.NameFault.{NameFault}
-use Rattle.name_numbers.specs.NumberedNames.{AreWords, ForOne, ForRefused, ForTwo, ForUnknown, IsWord}
+use Rattle.table_names.specs.NumberedNames.{AreWords, ForOne, ForRefused, ForTwo, ForUnknown, IsWord}
 use Rattle.live_table.specs.declared.dead_end.DeadEnd.{DeadEnd}
 use Rattle.live_table.specs.ExploredNames.{explored_dead_end_fault, explored_fault_at}
 use Rattle.live_table.specs.Exploration.{AreExplorationSteps, AreNodesAdded, AreNodesGrown, IsExplorationAgenda}

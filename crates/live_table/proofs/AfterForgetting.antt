@@ -14,14 +14,14 @@ use Rattle.deck.specs.Changes.{IsEditChange, KeysChangedByEditLaw}
 use Rattle.deck.specs.Decks.{DeckContents}
 use Rattle.deck.specs.Tables.{table_of_deck}
 use Rattle.name_lookup.specs.Plans.{LookupResult}
-use Rattle.name_edges.specs.AffectedNames.{AreAffectedByEdges}
-use Rattle.name_edges.specs.NameGraphs.{NameEdgeGraph}
-use Rattle.name_edges.proofs.Cutting.{users_affected}
-use Rattle.name_numbers.specs.EdgeLaws.{AreNumberedNameEdges}
-use Rattle.name_numbers.specs.NumberedNames.{AreWords, ForOne, ForRefused, ForTwo, ForUnknown, IsWord}
-use Rattle.name_numbers.proofs.AffectedNumbers.{affected_numbered_names_law}
-use Rattle.name_numbers.proofs.EdgeChanges.{edges_cut, looks_same, same_words}
-use Rattle.name_numbers.proofs.Reached.{lead_of_step}
+use Rattle.edge_links.specs.AffectedNames.{AreAffectedByEdges}
+use Rattle.edge_links.specs.NameGraphs.{NameEdgeGraph}
+use Rattle.edge_links.proofs.NameEdgeCuts.{users_affected}
+use Rattle.table_names.specs.EdgeLaws.{AreNumberedNameEdges}
+use Rattle.table_names.specs.NumberedNames.{AreWords, ForOne, ForRefused, ForTwo, ForUnknown, IsWord}
+use Rattle.table_names.proofs.AffectedNumbers.{affected_numbered_names_law}
+use Rattle.table_names.proofs.EdgeChanges.{edges_cut, looks_same, same_words}
+use Rattle.table_names.proofs.ReachedNumbers.{lead_of_step}
 use Rattle.name_walk.specs.declared.step.Step.{Step}
 use Rattle.name_walk.specs.ClosedNames.{IsSettledInGraph}
 use Rattle.name_walk.specs.Steps.{GraphLeadsTo, graph_steps}

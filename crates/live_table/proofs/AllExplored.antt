@@ -9,7 +9,7 @@ use Rattle.name_walk.specs.Faults.{is_on_path}
 use Rattle.name_walk.specs.Steps.{graph_steps}
 use Rattle.name_walk.proofs.Members.{member_on_path, on_path_member}
 use Rattle.table_names.specs.Words.{table_words_of_key}
-use Rattle.name_numbers.specs.NumberedNames.{AreWords}
+use Rattle.table_names.specs.NumberedNames.{AreWords}
 use Rattle.live_table.specs.declared.dead_end.DeadEnd.{DeadEnd}
 use Rattle.live_table.specs.ExploredNames.{AreExplored, explored_fault_at}
 use Rattle.live_table.specs.Exploration.{AreAllExplored, IsKnownToExploration, is_known_to_exploration}

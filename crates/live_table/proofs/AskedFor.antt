@@ -13,8 +13,8 @@ use Rattle.table_names.specs.Leads.{TableWordsReach}
 use Rattle.table_names.specs.Reach.{reach}
 use Rattle.table_names.proofs.ReachedKeys.{table_name_reach_law}
 use Rattle.deck.specs.Tables.{table_of_deck}
-use Rattle.name_numbers.specs.NumberedNames.{AreWords, LeadToKnownNumbers, fault_by_name}
-use Rattle.name_numbers.specs.SettlingLaws.{AreNewNumberedKeys}
+use Rattle.table_names.specs.NumberedNames.{AreWords, LeadToKnownNumbers, fault_by_name}
+use Rattle.table_names.specs.SettlingLaws.{AreNewNumberedKeys}
 use Rattle.live_table.specs.declared.dead_end.DeadEnd.{DeadEnd}
 use Rattle.live_table.specs.declared.fault.QueryFault.{QueryFault}
 use Rattle.live_table.specs.declared.fault.QueryFault.TheVariants.{Name}

@@ -15,8 +15,8 @@ use Rattle.table_names.specs.Words.{table_words_of_key}
 use Rattle.table_names.proofs.ClosedLaws.{closed_word_law}
 use Rattle.table_names.proofs.ReachedKeys.{table_name_reach_law}
 use Rattle.deck.specs.Tables.{table_of_deck}
-use Rattle.name_numbers.specs.NumberedNames.{LeadToKnownNumbers}
-use Rattle.name_numbers.specs.SettlingLaws.{AreNewNumberedKeys}
+use Rattle.table_names.specs.NumberedNames.{LeadToKnownNumbers}
+use Rattle.table_names.specs.SettlingLaws.{AreNewNumberedKeys}
 use Rattle.live_table.specs.declared.fault.QueryFault.{QueryFault}
 use Rattle.live_table.specs.QueryEffects.{IsLiveQueryAnswered, IsLiveQueryEffect, IsSettledKey, live_query_fault}
 use Rattle.live_table.specs.ExploredNames.{AreExplored, explored_fault_at}

@@ -7,7 +7,7 @@ use Rattle.def_entry.specs.declared.key.Key.{Key}
 use Rattle.def_entry.specs.Tables.{EntryTable, is_entry_present}
 use Rattle.name_walk.specs.declared.step.Step.{Step}
 use Rattle.name_walk.specs.declared.step.Step.TheVariants as step
-use Rattle.name_numbers.specs.NumberedNames.{ForOne, ForTwo}
+use Rattle.table_names.specs.NumberedNames.{ForOne, ForTwo}
 use Rattle.live_table.specs.declared.dead_end.DeadEnd.{DeadEnd}
 use Rattle.live_table.specs.declared.word_targets.Destination.{Destination}
 use Rattle.live_table.specs.declared.word_targets.Destination.TheVariants.{Refused, Nowhere, One, Two}

@@ -20,9 +20,9 @@ use Rattle.tree_eval.specs.declared.outcome.Outcome.{Outcome}
 use Rattle.table_names.specs.declared.fault.NameFault.{NameFault}
 use Rattle.table_names.specs.ClosedKeys.{IsClosedKey}
 use Rattle.table_names.specs.Words.{table_words_of_key}
-use Rattle.name_numbers.specs.FaultLaws.{NumberedNameFaultLaw}
-use Rattle.name_numbers.specs.NumberedNames.{AreWords, ForOne, ForRefused, ForTwo, ForUnknown, IsWord}
-use Rattle.name_numbers.specs.NumberedNames.{LeadToKnownNumbers, fault_by_name}
+use Rattle.table_names.specs.NumberedFaultLaws.{NumberedNameFaultLaw}
+use Rattle.table_names.specs.NumberedNames.{AreWords, ForOne, ForRefused, ForTwo, ForUnknown, IsWord}
+use Rattle.table_names.specs.NumberedNames.{LeadToKnownNumbers, fault_by_name}
 use Rattle.live_table.specs.declared.callee.Callee.{Callee}
 use Rattle.live_table.specs.declared.dead_end.DeadEnd.{DeadEnd}
 use Rattle.live_table.specs.Due.{AreDueToBeSettled, IsDueToBeSettled, nodes_with_settled_outcome}

@@ -10,10 +10,10 @@ use Rattle.def_entry.specs.declared.key.Key.{Key}
 use Rattle.def_entry.specs.SameKeys.{is_entry_key_among}
 use Rattle.def_entry.specs.Tables.{EntryTable, is_entry_present}
 use Rattle.edge_links.specs.Reach.{AreMarksCleared}
-use Rattle.name_edges.specs.AffectedNames.{AreAffectedByEdges, AreEdgesCut, ForgetsNameEdges, IsAffectedByEdges}
-use Rattle.name_edges.specs.NameGraphs.{NameEdgeGraph}
-use Rattle.name_edges.proofs.Cutting.{affected_by_both, affected_by_one, cleared_on, cut_on, in_alone}
-use Rattle.name_numbers.specs.EdgeLaws.{AreNumbersOfNames}
+use Rattle.edge_links.specs.AffectedNames.{AreAffectedByEdges, AreEdgesCut, ForgetsNameEdges, IsAffectedByEdges}
+use Rattle.edge_links.specs.NameGraphs.{NameEdgeGraph}
+use Rattle.edge_links.proofs.NameEdgeCuts.{affected_by_both, affected_by_one, cleared_on, cut_on, in_alone}
+use Rattle.table_names.specs.EdgeLaws.{AreNumbersOfNames}
 use Rattle.table_names.proofs.KeyLists.{member_table_key_is_among, table_key_among_is_member}
 use Rattle.tree_eval.specs.declared.outcome.Outcome.{Outcome}
 use Rattle.live_table.specs.TableEdges.{is_flagged_settled}

@@ -18,7 +18,7 @@ use Rattle.name_walk.specs.Steps.{Graph, GraphLeadsTo, GraphReaches, at_once, fu
 use Rattle.name_walk.specs.Trails.{Faults}
 use Rattle.name_walk.specs.Walks.{IsWalked, walk_fault_view}
 use Rattle.tree_eval.specs.declared.outcome.Outcome.{Outcome}
-use Rattle.name_numbers.specs.NumberedNames.{LeadToKnownNumbers}
+use Rattle.table_names.specs.NumberedNames.{LeadToKnownNumbers}
 use Rattle.live_table.specs.declared.callee.Callee.{Callee}
 use Rattle.live_table.specs.declared.dead_end.DeadEnd.{DeadEnd}
 use Rattle.live_table.specs.QueryEffects.{AreUnsettledNamesClosed}

@@ -18,7 +18,7 @@ use Rattle.tree_eval.specs.declared.outcome.Outcome.{Outcome}
 use Rattle.table_names.specs.Meanings.{key_meaning}
 use Rattle.table_names.specs.Words.{table_words_of_key}
 use Rattle.table_names.proofs.KeyLists.{member_table_key_is_among}
-use Rattle.name_numbers.specs.NumberedNames.{AreWords}
+use Rattle.table_names.specs.NumberedNames.{AreWords}
 use Rattle.live_table.specs.declared.callee.Callee.{Callee}
 use Rattle.live_table.specs.declared.dead_end.DeadEnd.{DeadEnd}
 use Rattle.live_table.specs.Callees.{HasNodeRank}

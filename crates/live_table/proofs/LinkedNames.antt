@@ -10,12 +10,12 @@ use Rattle.def_entry.specs.declared.key.Key.{Key}
 use Rattle.deck.specs.Decks.{DeckContents}
 use Rattle.deck.specs.Tables.{table_of_deck}
 use Rattle.edge_links.specs.Edges.{link_edge, AreSameLinkEdges}
-use Rattle.name_edges.specs.Laws.{AddedEdgesLaw}
-use Rattle.name_edges.specs.NameGraphs.{NameEdgeGraph}
-use Rattle.name_numbers.specs.EdgeLaws.{AreNumberedNameEdges}
-use Rattle.name_numbers.specs.NumberedNames.{AreWords}
-use Rattle.name_numbers.proofs.EdgeChanges.{edges_grown, edges_linked}
-use Rattle.name_numbers.proofs.Reached.{lead_of_step}
+use Rattle.edge_links.specs.NameEdgeLaws.{AddedEdgesLaw}
+use Rattle.edge_links.specs.NameGraphs.{NameEdgeGraph}
+use Rattle.table_names.specs.EdgeLaws.{AreNumberedNameEdges}
+use Rattle.table_names.specs.NumberedNames.{AreWords}
+use Rattle.table_names.proofs.EdgeChanges.{edges_grown, edges_linked}
+use Rattle.table_names.proofs.ReachedNumbers.{lead_of_step}
 use Rattle.name_walk.specs.declared.step.Step.{Step}
 use Rattle.name_walk.specs.declared.step.Step.TheVariants.{To}
 use Rattle.name_walk.specs.ClosedNames.{IsSettledInGraph}

@@ -35,8 +35,8 @@ use Rattle.table_names.specs.Words.{table_words_of_entry, table_words_of_key, ta
 use Rattle.table_names.proofs.ClosedLaws.{closed_word_law}
 use Rattle.table_names.proofs.MeaningKinds.{meaning_kind_law}
 use Rattle.table_names.proofs.Meanings.{closed_meaning_law}
-use Rattle.name_numbers.specs.NumberedNames.{IsWord}
-use Rattle.name_numbers.specs.NumberedNames as word
+use Rattle.table_names.specs.NumberedNames.{IsWord}
+use Rattle.table_names.specs.NumberedNames as word
 use Rattle.live_table.specs.declared.callee.Callee.{Callee as KeptCallee}
 use Rattle.live_table.specs.declared.surroundings.Asked.{Asked}
 use Rattle.live_table.specs.declared.surroundings.Asked.TheVariants as subject

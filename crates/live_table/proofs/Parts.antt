@@ -15,7 +15,7 @@ use Rattle.tree_eval.specs.Entries.{eval_part_words, eval_tree_words_if, functio
 use Rattle.tree_eval.specs.Expansion.{inverted_eval_word}
 use Rattle.table_names.specs.declared.fault.NameFault.{NameFault}
 use Rattle.table_names.specs.Words.{table_words_of_what}
-use Rattle.name_numbers.specs.NumberedNames.{AreWords, IsWord}
+use Rattle.table_names.specs.NumberedNames.{AreWords, IsWord}
 use Rattle.live_table.specs.Callees.{node_part_start}
 use Rattle.general_lemmas.proofs.Places.{get_left, get_right}
 

@@ -17,9 +17,9 @@ use Rattle.table_names.specs.declared.fault.NameFault.{NameFault}
 use Rattle.table_names.specs.Meanings.{outcome}
 use Rattle.deck.specs.Decks.{DeckContents}
 use Rattle.deck.specs.Tables.{table_of_deck}
-use Rattle.name_numbers.specs.NumberedNames.{fault_by_name}
-use Rattle.name_numbers.specs.SettlingLaws.{AreNewNumberedKeys, AreNumberedNameMarks}
-use Rattle.name_numbers.proofs.NewKeys.{key_of_numbered_name_is_member}
+use Rattle.table_names.specs.NumberedNames.{fault_by_name}
+use Rattle.table_names.specs.SettlingLaws.{AreNewNumberedKeys, AreNumberedNameMarks}
+use Rattle.table_names.proofs.NewKeys.{key_of_numbered_name_is_member}
 use Rattle.live_table.specs.declared.dead_end.DeadEnd.{DeadEnd}
 use Rattle.live_table.specs.declared.fault.QueryFault.{QueryFault}
 use Rattle.live_table.specs.declared.fault.QueryFault.TheVariants.{Name, Value, OutOfMemory}

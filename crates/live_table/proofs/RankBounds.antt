@@ -26,7 +26,7 @@ use Rattle.table_names.specs.Leads.{table_word_targets}
 use Rattle.table_names.specs.Meanings.{key_meaning, outcome, word_meaning}
 use Rattle.table_names.specs.Words.{table_words_of_entry, table_words_of_key, table_words_of_what}
 use Rattle.table_names.proofs.ClosedLaws.{closed_word_law}
-use Rattle.name_numbers.proofs.Ranks.{numbered_name_rank_law}
+use Rattle.table_names.proofs.Ranks.{numbered_name_rank_law}
 use Rattle.live_table.specs.declared.callee.Callee.{Callee as KeptCallee}
 use Rattle.live_table.specs.declared.surroundings.Asked.{Asked}
 use Rattle.live_table.specs.declared.surroundings.Asked.TheVariants.{Name}

@@ -18,7 +18,7 @@ use Rattle.name_walk.proofs.Lists.{all_at}
 use Rattle.name_walk.proofs.DoneNames.{settled_graph_law_holds}
 use Rattle.name_walk.proofs.Members.{take_member}
 use Rattle.table_names.specs.Words.{table_words_of_key}
-use Rattle.name_numbers.specs.NumberedNames.{AreWords}
+use Rattle.table_names.specs.NumberedNames.{AreWords}
 use Rattle.live_table.specs.declared.callee.Callee.{Callee}
 use Rattle.live_table.specs.declared.dead_end.DeadEnd.{DeadEnd}
 use Rattle.live_table.specs.Callees.{HasNodePartStarts}

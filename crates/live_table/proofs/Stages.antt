@@ -6,8 +6,8 @@ use Rattle.name_walk.specs.declared.step.Step.{Step}
 use Rattle.table_names.specs.declared.fault.NameFault.{NameFault}
 use Rattle.deck.specs.Decks.{DeckContents}
 use Rattle.deck.specs.Tables.{table_of_deck}
-use Rattle.name_numbers.specs.FaultLaws.{NumberedNameFaultLaw}
-use Rattle.name_numbers.specs.SettlingLaws.{NumberedNameSettlingLaw}
+use Rattle.table_names.specs.NumberedFaultLaws.{NumberedNameFaultLaw}
+use Rattle.table_names.specs.SettlingLaws.{NumberedNameSettlingLaw}
 use Rattle.live_table.specs.declared.dead_end.DeadEnd.{DeadEnd}
 use Rattle.live_table.specs.declared.explored_names.Explored.{Explored}
 use Rattle.live_table.specs.declared.fault.QueryFault.{QueryFault}

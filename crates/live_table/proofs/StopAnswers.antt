@@ -9,7 +9,7 @@ use Rattle.name_walk.specs.declared.step.Step.{Step}
 use Rattle.name_walk.specs.Findings.{IsFaultyWalkStep, IsWalkQueryFault}
 use Rattle.name_walk.specs.Faults as walk
 use Rattle.name_walk.specs.Trails.{Faults}
-use Rattle.name_numbers.specs.NumberedNames.{fault_by_name}
+use Rattle.table_names.specs.NumberedNames.{fault_by_name}
 use Rattle.tree_eval.specs.Steps.{ValueOrFault}
 use Rattle.table_names.specs.declared.fault.NameFault.{NameFault}
 use Rattle.live_table.specs.declared.dead_end.DeadEnd.{DeadEnd}

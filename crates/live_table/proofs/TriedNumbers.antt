@@ -16,7 +16,7 @@ use Rattle.name_lookup.specs.Plans.{LookupResult, run_lookup_plan}
 use Rattle.name_lookup.specs.Targets.{AreLookupTargetsFound, last_lookup_keys, lookup_target_count}
 use Rattle.name_walk.specs.Faults.{is_on_path}
 use Rattle.table_names.specs.Leads.{TableNameLookupLaw, table_word_looked_keys, table_word_lookup, table_word_targets}
-use Rattle.name_numbers.proofs.NewKeys.{key_of_numbered_name_is_member, numbered_name_of_key_member}
+use Rattle.table_names.proofs.NewKeys.{key_of_numbered_name_is_member, numbered_name_of_key_member}
 use Rattle.live_table.specs.declared.word_targets.Destination.{Destination}
 use Rattle.live_table.specs.declared.word_targets.Destination.TheVariants.{Refused, Nowhere, One, Two}
 use Rattle.live_table.specs.declared.dead_end.DeadEnd.{DeadEnd}

@@ -11,9 +11,9 @@ use Rattle.def_entry.specs.declared.key.Key.{Key}
 use Rattle.def_entry.specs.Tables.{EntryTable}
 use Rattle.deck.specs.Decks.{DeckContents}
 use Rattle.deck.specs.Tables.{table_of_deck}
-use Rattle.name_edges.specs.NameGraphs.{NameEdgeGraph}
-use Rattle.name_numbers.proofs.EdgeChanges.{edges_grown}
-use Rattle.name_numbers.proofs.Reached.{step_of_lead}
+use Rattle.edge_links.specs.NameGraphs.{NameEdgeGraph}
+use Rattle.table_names.proofs.EdgeChanges.{edges_grown}
+use Rattle.table_names.proofs.ReachedNumbers.{step_of_lead}
 use Rattle.name_walk.specs.declared.step.Step.TheVariants.{To}
 use Rattle.name_walk.specs.ClosedNames.{IsSettledInGraph}
 use Rattle.name_walk.specs.Faults.{is_on_path}

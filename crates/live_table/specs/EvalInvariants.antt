@@ -11,7 +11,7 @@ use Rattle.name_walk.specs.ClosedNames.{IsSettledInGraph}
 use Rattle.name_walk.specs.Steps.{GraphLeadsTo}
 use Rattle.table_names.specs.declared.fault.NameFault.{NameFault}
 use Rattle.table_names.specs.ClosedKeys.{AreClosedWords, IsClosedKey}
-use Rattle.name_numbers.specs.NumberedNames.{AreWords}
+use Rattle.table_names.specs.NumberedNames.{AreWords}
 use Rattle.live_table.specs.declared.surroundings.Asked.{Asked}
 use Rattle.live_table.specs.declared.surroundings.Asked.TheVariants.{Expression, Name}
 use Rattle.live_table.specs.Scenes.{NodeScene}

@@ -13,7 +13,7 @@ use Rattle.name_walk.specs.ClosedNames.{IsSettledInGraph}
 use Rattle.name_walk.specs.Faults.{is_on_path}
 use Rattle.name_walk.specs.Steps.{graph_steps}
 use Rattle.table_names.specs.Words.{table_words_of_key}
-use Rattle.name_numbers.specs.NumberedNames.{AreWords}
+use Rattle.table_names.specs.NumberedNames.{AreWords}
 use Rattle.live_table.specs.declared.callee.Callee.{Callee}
 use Rattle.live_table.specs.declared.dead_end.DeadEnd.{DeadEnd}
 use Rattle.live_table.specs.ExploredNames.{explored_fault_at}

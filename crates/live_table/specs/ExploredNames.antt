@@ -4,7 +4,7 @@ use Rattle.def_entry.specs.declared.key.Key.{Key}
 use Rattle.def_entry.specs.Tables.{EntryTable}
 use Rattle.table_names.specs.declared.fault.NameFault.{NameFault}
 use Rattle.table_names.specs.declared.fault.NameFault.TheVariants.{Refused, Unknown}
-use Rattle.name_numbers.specs.NumberedNames.{AreNumbered}
+use Rattle.table_names.specs.NumberedNames.{AreNumbered}
 use Rattle.live_table.specs.declared.dead_end.DeadEnd.{DeadEnd}
 use Rattle.live_table.specs.Sound.{HasCachedLooksIfLed, HasCachedPartStarts}
 use Rattle.live_table.specs.TableContents.{NodeLists, node_key_at}

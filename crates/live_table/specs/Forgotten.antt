@@ -3,9 +3,9 @@ use Rattle.std.specs.Prelude.{◌≡◌, ◌<◌, ◌≤◌, ℕ, List, Some, le
 use Rattle.def_entry.specs.declared.key.Key.{Key}
 use Rattle.def_entry.specs.Tables.{EntryTable, is_entry_present}
 use Rattle.edge_links.specs.Reach.{AreMarksCleared}
-use Rattle.name_edges.specs.AffectedNames.{AreAffectedByEdges, ForgetsNameEdges}
-use Rattle.name_edges.specs.NameGraphs.{NameEdgeGraph}
-use Rattle.name_numbers.specs.EdgeLaws.{AreNumbersOfNames}
+use Rattle.edge_links.specs.AffectedNames.{AreAffectedByEdges, ForgetsNameEdges}
+use Rattle.edge_links.specs.NameGraphs.{NameEdgeGraph}
+use Rattle.table_names.specs.EdgeLaws.{AreNumbersOfNames}
 use Rattle.live_table.specs.TableEdges.{is_flagged_settled}
 use Rattle.live_table.specs.OutcomesLeft.{AreSettledNumbersLeft}
 use Rattle.live_table.specs.TableContents.{NodeLists, node_key_at}

@@ -11,7 +11,7 @@ use Rattle.name_walk.specs.Faults as walk
 use Rattle.name_walk.specs.NewlyClosed.{AreNewlyClosedByWalk}
 use Rattle.table_names.specs.Faults.{key_fault}
 use Rattle.table_names.specs.declared.fault.NameFault.{NameFault}
-use Rattle.name_numbers.specs.NumberedNames.{fault_by_name}
+use Rattle.table_names.specs.NumberedNames.{fault_by_name}
 use Rattle.live_table.specs.declared.dead_end.DeadEnd.{DeadEnd}
 use Rattle.live_table.specs.declared.fault.QueryFault.{QueryFault}
 use Rattle.live_table.specs.declared.fault.QueryFault.TheVariants.{Name, Value, OutOfMemory}

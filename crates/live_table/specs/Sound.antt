@@ -13,7 +13,7 @@ use Rattle.name_walk.specs.Steps.{graph_steps}
 use Rattle.table_names.specs.declared.fault.NameFault.{NameFault}
 use Rattle.table_names.specs.Meanings.{key_meaning}
 use Rattle.table_names.specs.Words.{table_words_of_key}
-use Rattle.name_numbers.specs.NumberedNames.{AreWords}
+use Rattle.table_names.specs.NumberedNames.{AreWords}
 use Rattle.live_table.specs.declared.callee.Callee.{Callee}
 use Rattle.live_table.specs.Callees.{HasNodePartStarts, HasNodeRank}
 use Rattle.live_table.specs.Looks.{AllNodeStepsLead, AreNodeLooks}

@@ -4,8 +4,8 @@ use Rattle.def_entry.specs.declared.key.Key.{Key}
 use Rattle.def_entry.specs.Tables.{EntryTable}
 use Rattle.deck.specs.Decks.{DeckContents}
 use Rattle.deck.specs.Tables.{table_of_deck}
-use Rattle.name_edges.specs.NameGraphs.{NameEdgeGraph}
-use Rattle.name_numbers.specs.EdgeLaws.{AreNumberedNameEdges}
+use Rattle.edge_links.specs.NameGraphs.{NameEdgeGraph}
+use Rattle.table_names.specs.EdgeLaws.{AreNumberedNameEdges}
 use Rattle.name_walk.specs.ClosedNames.{IsSettledInGraph}
 use Rattle.name_walk.specs.Faults.{is_on_path}
 use Rattle.table_names.specs.Leads.{TableWordsLeadTo}

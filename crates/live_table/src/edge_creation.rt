@@ -11,7 +11,7 @@ use crate::nodes::Nodes;
 use crate::surroundings::steps_of;
 use crate::worklist::Worklist;
 use deck::Deck;
-use name_edges::{NameEdges, linking_law};
+use edge_links::{NameEdges, linking_law};
 use name_walk::Step;
 use std::alloc::{AllocError, Global};
 

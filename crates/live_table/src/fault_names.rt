@@ -3,7 +3,7 @@
 ghost use Rattle.std.specs.Prelude.{◌≡◌, IfOk, map};
 ghost use Rattle.def_entry.specs.Tables.{EntryTable};
 ghost use Rattle.name_walk.specs.Walks.{walk_fault_view};
-ghost use Rattle.name_numbers.specs.NumberedNames.{fault_by_name};
+ghost use Rattle.table_names.specs.NumberedNames.{fault_by_name};
 ghost use Rattle.live_table.specs.ExploredNames.{explored_fault_at};
 ghost use Rattle.live_table.specs.TableContents.{node_key_at};
 

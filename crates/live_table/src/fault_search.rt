@@ -2,7 +2,7 @@
 
 ghost use Rattle.std.specs.Prelude.{◌≡◌, IfOk};
 ghost use Rattle.deck.specs.Tables.{table_of_deck};
-ghost use Rattle.name_numbers.specs.NumberedNames.{LeadToKnownNumbers};
+ghost use Rattle.table_names.specs.NumberedNames.{LeadToKnownNumbers};
 ghost use Rattle.name_walk.specs.Findings.{IsFirstFaultyWalkStep};
 ghost use Rattle.live_table.specs.Exploration.{AreAllExplored, WereExplored, is_known_to_exploration};
 ghost use Rattle.live_table.specs.KnownFaults.{AreExploredFaultsKnown, IsFirstExploredFault};

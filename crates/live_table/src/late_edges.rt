@@ -3,7 +3,7 @@
 ghost use Rattle.std.specs.Prelude.{◌≡◌, []};
 
 use crate::worklist::Worklist;
-use name_edges::NameEdges;
+use edge_links::NameEdges;
 use std::alloc::Global;
 use std::collections::VecDeque;
 

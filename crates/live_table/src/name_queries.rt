@@ -5,7 +5,7 @@ ghost use Rattle.def_entry.specs.Keys as key_spec;
 ghost use Rattle.def_entry.specs.Tables.{is_entry_present};
 ghost use Rattle.deck.specs.Tables.{table_of_deck};
 ghost use Rattle.table_names.specs.Faults.{name_fault};
-ghost use Rattle.name_numbers.specs.NumberedNames.{LeadToKnownNumbers};
+ghost use Rattle.table_names.specs.NumberedNames.{LeadToKnownNumbers};
 ghost use Rattle.live_table.specs.QueryEffects.{IsLiveKeyQuery, IsLiveQueryAnswered, IsLiveQueryEffect};
 ghost use Rattle.live_table.specs.TableEdges.{IsLive};
 ghost use Rattle.live_table.specs.Exploration.{AreAllExplored, WereExplored, is_known_to_exploration};
@@ -32,10 +32,10 @@ use crate::worklist::Worklist;
 use deck::Deck;
 use def_entry::{Kind, What};
 use expr_tree::Words;
-use name_numbers::{numbered_fault_law, settling_law};
 use name_walk::{Step, StepList, findings_law};
 use std::alloc::{AllocError, Global};
 use std::sync::ledger::Ledger;
+use table_names::{numbered_fault_law, settling_law};
 use units_io::Steps;
 
 /// Queries the names of words. Either the words have a name fault, or the names that they reach are settled and the

@@ -14,3 +14,11 @@ pub mod Paths
 pub mod ReachedKeys
 pub mod StandingMeanings
 pub mod TargetKinds
+pub mod AffectedNumbers
+pub mod EdgeChanges
+pub mod FewTargets
+pub mod NewKeys
+pub mod NumberPaths
+pub mod Ranks
+pub mod ReachedNumbers
+pub mod SameFault

@@ -15,3 +15,9 @@ pub mod Reach
 pub mod StandsFor
 pub mod StandsForLaws
 pub mod Words
+pub mod EdgeLaws
+pub mod LookupLaws
+pub mod NumberedFaultLaws
+pub mod NumberedNames
+pub mod RankLaws
+pub mod SettlingLaws

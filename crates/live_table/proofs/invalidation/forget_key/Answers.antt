@@ -7,7 +7,7 @@ use Rattle.def_entry.specs.Tables.{is_entry_present, keys_of_entries}
 use Rattle.def_entry.specs.declared.key.Key.{Key}
 use Rattle.deck.specs.Tables.{table_of_deck}
 use Rattle.edge_links.specs.Reach.{AreMarksCleared}
-use Rattle.name_edges.specs.AffectedNames.{IsAffectedByEdges}
+use Rattle.edge_links.specs.AffectedNames.{IsAffectedByEdges}
 use Rattle.live_table.specs.TableEdges.{is_flagged_settled}
 use Rattle.live_table.specs.Forgotten.{AreForgotten}
 use Rattle.live_table.specs.OutcomesLeft.{AreSettledNumbersLeft}

@@ -5,7 +5,7 @@ use Rattle.name_walk.specs.declared.step.Step.{Step}
 use Rattle.deck.specs.Tables.{table_of_deck}
 use Rattle.table_names.specs.Faults.{name_fault}
 use Rattle.table_names.specs.Reach.{reach}
-use Rattle.name_numbers.specs.NumberedNames.{LeadToKnownNumbers}
+use Rattle.table_names.specs.NumberedNames.{LeadToKnownNumbers}
 use Rattle.live_table.specs.declared.dead_end.DeadEnd.{DeadEnd}
 use Rattle.live_table.specs.declared.fault.QueryFault.{QueryFault}
 use Rattle.live_table.specs.declared.fault.QueryFault.TheVariants as fault

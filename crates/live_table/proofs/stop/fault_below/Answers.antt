@@ -3,7 +3,7 @@ use Rattle.std.specs.Prelude.{IfOk}
 use Rattle.def_entry.specs.Tables.{EntryTable}
 use Rattle.deck.specs.Tables.{table_of_deck}
 use Rattle.name_walk.specs.Walks.{walk_fault_view}
-use Rattle.name_numbers.specs.NumberedNames.{fault_by_name}
+use Rattle.table_names.specs.NumberedNames.{fault_by_name}
 use Rattle.live_table.specs.declared.dead_end.DeadEnd.{DeadEnd}
 use Rattle.live_table.specs.ExploredNames.{explored_fault_at}
 use Rattle.live_table.specs.TableContents.{node_key_at, node_lists}

@@ -1,5 +1,0 @@
-use Rattle.name_edges.proofs.Linked.{linked_from, linked_to}
-use Rattle.name_edges.proofs.laws.linking_law.Goals as goal
-
-pub returns : goal.returns
-returns c user keys old new same x y = (linked_from user keys old new same x y, linked_to user keys old new same x y)

@@ -1,4 +1,0 @@
-pub mod AffectedNames
-pub mod Laws
-pub mod NameGraphs
-pub mod Nodes

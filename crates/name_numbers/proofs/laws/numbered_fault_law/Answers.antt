@@ -1,7 +1,0 @@
-use Rattle.name_numbers.proofs.SameFault as laws
-use Rattle.name_numbers.proofs.laws.numbered_fault_law.Goals as goal
-
-pub returns : goal.returns
-returns c =
-    laws.numbered_name_fault_law c.same_keys_law.ensures c.fault_law.ensures c.path_law.ensures
-    c.fault_law-2.ensures c.path_law-2.ensures

@@ -1,5 +1,0 @@
-use Rattle.name_numbers.proofs.NewKeys as laws
-use Rattle.name_numbers.proofs.laws.settling_law.Goals as goal
-
-pub returns : goal.returns
-returns c = laws.numbered_name_settling_law c.same_keys_law.ensures c.closed_law.ensures
