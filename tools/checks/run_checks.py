@@ -105,32 +105,45 @@ def result_of(output: str, status: int) -> Result:
     return result if agrees else result + Result(failed=1)
 
 
-def run(check: Check) -> tuple[str, Result, float]:
-    """The output of a check, its result, and the seconds that it took."""
-    begin = time.monotonic()
+@dataclass(frozen=True)
+class Run:
+    """A check that ended: its output, its result, and its time by the clock and of the processor, in seconds."""
+
+    output: str
+    result: Result
+    seconds: float
+    processor_seconds: float
+
+
+def run(check: Check) -> Run:
+    begin, processor_seconds = time.monotonic(), 0.0
     try:
-        process = subprocess.run(
+        process = subprocess.Popen(
             [ROOT / check.command[0], *check.command[1:]],
             cwd=ROOT,
             stdin=subprocess.DEVNULL,
             stdout=subprocess.PIPE,
             stderr=subprocess.STDOUT,
-            check=False,
         )
-        output, status = process.stdout.decode(errors="replace"), process.returncode
     except OSError as fault:
         output, status = f"{check.command[0]}: {fault}\n", 127
-    return output, result_of(output, status), time.monotonic() - begin
+    else:
+        output = process.stdout.read().decode(errors="replace")
+        _, wait_status, usage = os.wait4(process.pid, 0)
+        process.returncode = status = os.waitstatus_to_exitcode(wait_status)
+        processor_seconds = usage.ru_utime + usage.ru_stime
+    return Run(output, result_of(output, status), time.monotonic() - begin, processor_seconds)
 
 
 def run_all(checks: list[Check], workers: int) -> tuple[Result, list[str]]:
     """The sum of all results, and the names of the checks that failed."""
     total, failures = Result(), []
     with ThreadPoolExecutor(workers) as pool:
-        for check, (output, result, seconds) in zip(checks, pool.map(run, checks)):
-            print(f"== {check.name} ({seconds:.0f} s)\n{output}", end="" if output.endswith("\n") else "\n", flush=True)
-            total += result
-            if result.failed:
+        for check, done in zip(checks, pool.map(run, checks)):
+            print(f"== {check.name} ({done.seconds:.0f} s, {done.processor_seconds:.0f} s of the processor)")
+            print(done.output, end="" if done.output.endswith("\n") else "\n", flush=True)
+            total += done.result
+            if done.result.failed:
                 failures.append(check.name)
     return total, failures
 
