@@ -1,4 +1,4 @@
--- The words that form a command line of this program.
+-- The words that form a command line of units.
 use Rattle.std.specs.Prelude.{◌+◌, ◌&&◌, ◌||◌, ℕ, Bool, List, [], ◌∷◌, true, false, not, is_some, nat_le}
 use Rattle.std.specs.Prelude.{if◌then◌else◌, codes}
 use Rattle.std.specs.List.{list_all}

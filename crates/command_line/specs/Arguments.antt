@@ -1,4 +1,4 @@
--- The rule of an argument of the program's command.
+-- The rule of an argument of a command.
 use Rattle.std.specs.Prelude.{ℕ, Option}
 use Rattle.clap.specs.Words.{Rule, Text}
 use Rattle.command_line.specs.declared.definition.Form.{Form}

@@ -1,4 +1,4 @@
--- The program's command in terms of clap's own definitions.
+-- The command of units in terms of clap's own definitions.
 use Rattle.std.specs.Prelude.{◌∷◌, ◌++◌, List, [], None, codes}
 use Rattle.clap.specs.Words.{App, Rule}
 use Rattle.command_line.specs.Rules.{bare_command_app, flag_rule, option_letter, option_number_up_to}
@@ -37,7 +37,7 @@ source_option_rules = option_rule (codes "file") (option_letter (codes "f")) opt
     ∷ operand_rule (codes "to")
     ∷ []
 
--- the command of this program
+-- the command of units
 abbrev pub units_command_app : App
 units_command_app = command_app_with_rules bare_command_app
     (reply_option_rules ++ mode_flag_rules ++ column_option_rules ++ source_option_rules)

@@ -1,4 +1,4 @@
--- The request in the words of a command line.
+-- The request in the words of a command line of units.
 use Rattle.std.specs.Prelude.{ℕ, Bool, IfSome, List, Option, codes, false, option_map}
 use Rattle.std.specs.Option.{option_map_or}
 use Rattle.std.specs.Str.{bytes_eq}

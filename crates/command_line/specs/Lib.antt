@@ -6,3 +6,5 @@ pub mod Fields
 pub mod AcceptedWords
 pub mod Usage
 pub mod Examples
+pub mod WhyDigits
+pub mod WhyUsage

@@ -1,4 +1,4 @@
--- The kinds of arguments of the program's command.
+-- The kinds of arguments of a command.
 use Rattle.std.specs.Prelude.{◌∷◌, ℕ, List, [], Option, Some, None, codes, true, pos}
 use Rattle.clap.specs.Words.{App, Rule, Text, new_rule, with_rule}
 use Rattle.clap.specs.Simple.{new_shape}

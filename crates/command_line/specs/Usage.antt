@@ -1,4 +1,4 @@
--- The reply to words that the program does not accept.
+-- The reply to words that units does not accept.
 use Rattle.std.specs.Prelude.{ℕ, List, codes}
 
 -- the usage line, with its line feed

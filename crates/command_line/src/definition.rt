@@ -1,4 +1,4 @@
-//! The definition of the program's command for clap.
+//! The definition of the command of `units` for clap.
 ghost use Rattle.std.specs.Prelude.{◌≡◌, IfOk, false, map, pos};
 ghost use Rattle.clap.specs.Words.{app_of, new_rule, rule_of};
 ghost use Rattle.clap.specs.declared.builder.value_parser.ValueParser.TheVariants.{Signed};
@@ -12,7 +12,7 @@ use std::alloc::{AllocError, Global};
 
 /// How an argument is written.
 #[derive(Clone, Copy)]
-enum Form {
+pub(crate) enum Form {
     /// A flag.
     Flag,
     /// An option whose value is any text.
@@ -45,7 +45,7 @@ const ARGUMENTS: &[(&str, Option<char>, Form)] = &[
     ("to", None, Form::Operand),
 ];
 
-/// Returns the command of this program with all its arguments.
+/// Returns the command of `units` with all its arguments.
 pub(crate) fn units_command<'a>(alloc: Global) -> Result<Command<'a>, AllocError>
     ensures { IfOk result (λ command. app_of command ≡ units_command_app) }
 {
@@ -63,7 +63,7 @@ fn bare_command<'a>(alloc: Global) -> Command<'a>
 }
 
 /// Adds arguments, each with its name, its letter and its form.
-fn with_arguments<'a>(
+pub(crate) fn with_arguments<'a>(
     alloc: Global,
     command: Command<'a>,
     arguments: &[(&'a str, Option<char>, Form)],

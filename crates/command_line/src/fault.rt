@@ -2,10 +2,10 @@
 
 use std::alloc::{AllocError, AllocFailed};
 
-/// The reason why the words of a command line cannot be read as a `CommandLine`.
+/// The reason why words cannot be read as the command line of a program.
 #[derive(Clone, Copy, Debug)]
 pub enum WordsFault {
-    /// The words are not a command line of this program.
+    /// The words are not a command line of the program.
     Usage,
     /// The memory ran out while the words were read.
     OutOfMemory,

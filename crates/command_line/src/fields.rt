@@ -1,4 +1,4 @@
-//! The request in the words of a command line, field by field.
+//! The request in the words of a command line of `units`, field by field.
 ghost use Rattle.std.specs.Prelude.{◌≡◌, ◌≤◌, IfOk, IfSome, codes, option_map};
 ghost use Rattle.clap.specs.Words.{rows_of, found_of, first_of};
 ghost use Rattle.command_line.specs.Numbers.{IsOptionNumberUpTo, option_decimal_number};
@@ -8,7 +8,7 @@ use clap::ArgMatches;
 use std::alloc::{AllocError, Global};
 use units_io::Text;
 
-/// The request in the words of the command line.
+/// The request in the words of the command line of `units`.
 #[derive(Drop)]
 pub struct CommandLine {
     /// The number of significant digits, 1 to 36, if `-d` is given.
@@ -125,7 +125,8 @@ fn number_in(text: &str) -> u16
     text.parse::<u16>().unwrap()
 }
 
-fn flag_of(matches: &ArgMatches<'_>, name: &str) -> bool
+/// Reports whether a flag is given.
+pub(crate) fn flag_of(matches: &ArgMatches<'_>, name: &str) -> bool
     ensures { result ≡ has_command_flag name.now (rows_of (found_of matches.now)) }
 {
     match value_of(matches, name) {
@@ -134,7 +135,12 @@ fn flag_of(matches: &ArgMatches<'_>, name: &str) -> bool
     }
 }
 
-fn text_of(alloc: Global, matches: &ArgMatches<'_>, name: &str) -> Result<Option<Text>, AllocError>
+/// Returns a copy of the value of an argument, if it has one.
+pub(crate) fn text_of(
+    alloc: Global,
+    matches: &ArgMatches<'_>,
+    name: &str,
+) -> Result<Option<Text>, AllocError>
     ensures { IfOk result (λ text. text ≡ first_of name.now (rows_of (found_of matches.now))) }
 {
     match value_of(matches, name) {

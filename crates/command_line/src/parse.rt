@@ -1,4 +1,4 @@
-//! Parsing the words with clap.
+//! Parsing the words of `units` with clap.
 ghost use Rattle.std.specs.Prelude.{◌≡◌, ◌≢◌, [], IfOk, MatchResult, codes, map, true, false};
 ghost use Rattle.std.specs.List.{list_all};
 ghost use Rattle.std.specs.Str.{is_utf8};
@@ -29,7 +29,7 @@ pub(crate) fn texts_of<'w>(alloc: Global, words: &'w [Text]) -> Result<Vec<&'w s
     Ok(texts)
 }
 
-/// Returns the matches of the program's command in these words.
+/// Returns the matches of the command of `units` in these words.
 pub(crate) fn parse<'a>(alloc: Global, words: &'a [&'a str]) -> Result<ArgMatches<'a>, WordsFault>
     ensures exact { let texts = map (λ word. word.now) words.entry.now in
         MatchResult result
@@ -50,7 +50,8 @@ pub(crate) fn parse<'a>(alloc: Global, words: &'a [&'a str]) -> Result<ArgMatche
     }
 }
 
-fn fault_from(error: &Error) -> WordsFault
+/// Returns the fault that an error of clap amounts to.
+pub(crate) fn fault_from(error: &Error) -> WordsFault
     ensures { result ≡ WordsFault.Usage → kind_of error.now ≢ ErrorKind.OutOfMemory }
 {
     match error.kind() {

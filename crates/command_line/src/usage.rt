@@ -1,4 +1,4 @@
-//! The reply to words that the program does not accept.
+//! The reply to words that `units` does not accept.
 ghost use Rattle.std.specs.Prelude.{◌≡◌};
 ghost use Rattle.command_line.specs.Usage as spec;
 

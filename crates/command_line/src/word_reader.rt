@@ -1,4 +1,4 @@
-//! Reading the words of the command line.
+//! Reading the words of the command line of `units`.
 ghost use Rattle.std.specs.Prelude.{◌≡◌, ◌≤◌, IfOk, IfSome, true, false};
 ghost use Rattle.command_line.specs.AcceptedWords as spec;
 ghost use Rattle.command_line.specs.Fields.{command_line_of};
@@ -12,7 +12,7 @@ use units_io::Text;
 
 /// Reads the words after the program's name.
 ///
-/// The error is `Usage` if the words are not a command line of this program, and `OutOfMemory` if the memory ran out
+/// The error is `Usage` if the words are not a command line of `units`, and `OutOfMemory` if the memory ran out
 /// before this was known.
 pub fn read_words(alloc: Global, words: &[Text]) -> Result<CommandLine, WordsFault>
     ensures taken { IfOk result (λ _. spec.are_command_words_accepted words.now ≡ true) }

@@ -3,12 +3,12 @@
 use crate::evaluator::Evaluator;
 use crate::line_names::{LineNames, line_names, line_names_to_read};
 use crate::stop::Stop;
+use command_line::{Inquiry, WhyRequest};
 use deck::{Deck, Settings, built_in_text};
 use live_table::LiveTable;
 use std::alloc::{AllocError, Global};
 use std::sync::ledger::Ledger;
 use units_io::{Files, Steps, Text, Vars};
-use why_words::{Inquiry, Request};
 
 /// The file name that is reported for places in the built-in definitions.
 pub(crate) const BUILT_IN_NAME: &[u8] = b"builtin";
@@ -36,7 +36,7 @@ impl<L: Ledger> Drop for Definitions<L> {
 pub(crate) fn load<F: Files, L: Ledger>(
     alloc: Global,
     files: &mut F,
-    request: &Request,
+    request: &WhyRequest,
     vars: &Vars,
     steps: Steps<L>,
 ) -> Result<Definitions<L>, Stop> {
@@ -68,7 +68,7 @@ struct LoadedDeck {
 }
 
 // Returns the requested locale, or `en_US`, and the variables of the environment.
-fn settings_of(alloc: Global, request: &Request, vars: &Vars) -> Result<Settings, AllocError> {
+fn settings_of(alloc: Global, request: &WhyRequest, vars: &Vars) -> Result<Settings, AllocError> {
     let locale = match &request.locale {
         Some(locale) => locale.copy(alloc)?,
         None => Text::from_bytes(alloc, b"en_US")?,

@@ -16,13 +16,13 @@ use crate::shadows::Shadows;
 use crate::unmet::put_unmet;
 use crate::unused_definitions::put_unused;
 use crate::writer::Writer;
+use command_line::Findings;
 use deck::Deck;
 use reply::Options;
 use std::alloc::{AllocError, Global};
 use std::sync::ledger::Ledger;
 use survey::check_places;
 use units_io::{Files, Text};
-use why_words::Findings;
 
 /// Reports the findings in the definitions. The lines without effect come first. Then, in the order of the files and
 /// their lines, come each key that has a fault, each definition that a later one replaces or that does not conform to

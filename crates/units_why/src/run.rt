@@ -1,7 +1,7 @@
 //! The run of the program.
 
+ghost use Rattle.command_line.specs.WhyDigits.{HasWhyDigits};
 ghost use Rattle.reply.specs.Options.{AreReplyOptionsPrintable};
-ghost use Rattle.why_words.specs.Digits.{HasWhyDigits};
 
 use crate::definitions::{Definitions, load};
 use crate::lint::lint;
@@ -11,13 +11,13 @@ use crate::status::Status;
 use crate::stop::Stop;
 use crate::why::{Question, explain};
 use crate::writer::Writer;
+use command_line::{Inquiry, WhyRequest, WordsFault, read_why_words, why_usage_text};
 use deck::Deck;
 use reply::Options;
 use std::alloc::Global;
 use std::mem;
 use std::sync::ledger::Ledger;
 use units_io::{Files, Sink, Steps, Text, Vars, put_all};
-use why_words::{Inquiry, Request, WordsFault, read_words, usage_text};
 
 /// Answers the request on the command line over these files, and returns the status of the run. `words` are the words
 /// after the name of the program.
@@ -28,9 +28,9 @@ pub(crate) fn run<O: Sink, E: Sink, F: Files, L: Ledger>(
     ports: &mut Ports<O, E, F>,
     steps: Steps<L>,
 ) -> Status {
-    match read_words(alloc, words) {
+    match read_why_words(alloc, words) {
         Ok(request) => run_request(alloc, &request, vars, ports, steps),
-        Err(WordsFault::Usage) => complain(&mut ports.err, usage_text(), Status::Usage),
+        Err(WordsFault::Usage) => complain(&mut ports.err, why_usage_text(), Status::Usage),
         Err(WordsFault::OutOfMemory) => Status::NoMemory,
     }
 }
@@ -45,7 +45,7 @@ fn complain<E: Sink>(err: &mut E, text: &[u8], status: Status) -> Status {
 
 fn run_request<O: Sink, E: Sink, F: Files, L: Ledger>(
     alloc: Global,
-    request: &Request,
+    request: &WhyRequest,
     vars: &Vars,
     ports: &mut Ports<O, E, F>,
     steps: Steps<L>,
@@ -67,7 +67,7 @@ fn run_request<O: Sink, E: Sink, F: Files, L: Ledger>(
 }
 
 // Reports why a run has no definitions.
-fn report_stop<E: Sink>(alloc: Global, err: &mut E, request: &Request, stop: Stop) -> Status {
+fn report_stop<E: Sink>(alloc: Global, err: &mut E, request: &WhyRequest, stop: Stop) -> Status {
     let Some(words) = stop.words() else {
         return stop.status();
     };
@@ -86,7 +86,7 @@ fn report_stop<E: Sink>(alloc: Global, err: &mut E, request: &Request, stop: Sto
 // Writes the answer to a request, error messages first. Returns whether the request is refused.
 fn answer<O: Sink, E: Sink, F: Files, L: Ledger>(
     definitions: &mut Definitions<L>,
-    request: &Request,
+    request: &WhyRequest,
     ports: &mut Ports<O, E, F>,
 ) -> Result<bool, OutputFault>
     requires { HasWhyDigits request.now }
@@ -140,7 +140,7 @@ fn question_of<'a>(from: &'a Text, to: &'a Option<Text>, json: bool) -> Question
 }
 
 // Returns the options that values are written with.
-fn options_of(request: &Request) -> Options
+fn options_of(request: &WhyRequest) -> Options
     requires { HasWhyDigits request.now }
     ensures { AreReplyOptionsPrintable result }
 {

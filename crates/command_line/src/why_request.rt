@@ -1,10 +1,10 @@
-//! The request in a command line.
+//! The request in a command line of `units-why`.
 
 use units_io::Text;
 
-/// The request in a command line.
+/// The request in a command line of `units-why`.
 #[derive(Drop)]
-pub struct Request {
+pub struct WhyRequest {
     /// The definition file, or `None` for the built-in definitions.
     pub file: Option<Text>,
     /// The locale, if one is given.

@@ -1,4 +1,4 @@
--- The message for words that are not a request.
+-- The message for words that are not a request to units-why.
 use Rattle.std.specs.Prelude.{ℕ, List, codes}
 
 -- the line that shows both forms of a request
