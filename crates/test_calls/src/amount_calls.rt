@@ -1,6 +1,6 @@
 //! The calls on quantities, lists of units and tables of points, and the words that name them.
 
-use test_lines::meaning_of;
+use crate::lines::meaning_of;
 
 // A call, without its arguments.
 #[derive(Clone, Copy)]

@@ -1,11 +1,11 @@
 //! Quantities, lists of units and points in lines.
 
+use crate::lines::CallFault;
 use crate::reading::read_fraction;
 use def_entry::cut_at;
 use frac128::Frac;
 use quantity::{Quantity, QuantityFault};
 use std::alloc::Global;
-use test_lines::CallFault;
 use units_io::List;
 
 // Splits a text at the first `mark` into the parts before and after it. If there is no mark, the second part is empty.

@@ -1,8 +1,8 @@
 //! The texts of answers on quantities.
 
+use crate::lines::AnswerWriter;
 use quantity::{Exponent, Quantity, QuantityFault, Style};
 use std::alloc::Global;
-use test_lines::AnswerWriter;
 
 // Appends `yes` or `no`.
 pub(crate) fn put_truth(holds: bool, out: &mut AnswerWriter) {

@@ -3,12 +3,12 @@
 use crate::amount_calls::{AmountCall, Copying, Operator, Pair, Relation, amount_call};
 use crate::amount_reading::{parted, read_quantity};
 use crate::amount_text::{put_exponent, put_quantity, put_result, put_truth};
+use crate::lines::{AnswerWriter, CallFault, split_at_space};
 use crate::lists::put_split;
 use crate::point_tables::put_reading;
 use crate::reading::read_count;
 use quantity::{Quantity, QuantityFault, Style};
 use std::alloc::{AllocError, Global};
-use test_lines::{AnswerWriter, CallFault, split_at_space};
 
 // Appends the answer to a call: a word, a space and the arguments of the word, separated by `;`.
 pub(crate) fn put_amount_answer(

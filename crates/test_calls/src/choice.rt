@@ -3,9 +3,9 @@
 ghost use Rattle.std.specs.Prelude.{◌≤◌, IfSome};
 ghost use Rattle.reply.specs.Options.{AreReplyOptionsPrintable};
 
+use crate::lines::meaning_of;
 use reply::Options;
 use std::str;
-use test_lines::meaning_of;
 
 // A flag of replies.
 #[derive(Clone, Copy)]

@@ -4,13 +4,13 @@ use crate::deck_calls::{Call, Edit, KeyQuery, Load, Query, Setting, read_call};
 use crate::deck_queries::{put_key_query, put_query};
 use crate::deck_texts::{put_changes, put_fault};
 use crate::edit_calls::settings_of;
+use crate::lines::{
+    AnswerWriter, Answers, CallFault, key_in, put_answers, read_change, split_at_space,
+};
 use deck::{Deck, DeckFault, Settings, Splice};
 use def_entry::Keys;
 use std::alloc::{AllocError, Global};
 use std::mem;
-use test_lines::{
-    AnswerWriter, Answers, CallFault, key_in, put_answers, read_change, split_at_space,
-};
 use units_io::{Files, Text, Vars};
 
 // The state between calls: the files to load, the deck, a snapshot of an earlier state of it, the inverse of the last

@@ -1,6 +1,6 @@
 //! The calls on decks, and the words that name them.
 
-use test_lines::{meaning_of, split_at_space};
+use crate::lines::{meaning_of, split_at_space};
 
 // A call, without its argument.
 #[derive(Clone, Copy)]

@@ -2,10 +2,10 @@
 
 use crate::deck_calls::{KeyQuery, Query};
 use crate::deck_texts::{put_keys, put_lines, put_settings, put_texts};
+use crate::lines::{AnswerWriter, key_in};
 use deck::Deck;
 use def_entry::{Key, Kind};
 use std::alloc::{AllocError, Global};
-use test_lines::{AnswerWriter, key_in};
 
 // Appends the answer to a query about the deck.
 pub(crate) fn put_query(

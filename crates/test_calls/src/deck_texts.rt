@@ -1,10 +1,10 @@
 //! The texts of answers on decks.
 
+use crate::lines::{AnswerWriter, put_entry_refusal};
 use deck::{DeckFault, Settings};
 use deck_lines::{DeckLine, DeckLines};
 use def_entry::Keys;
 use std::alloc::Global;
-use test_lines::{AnswerWriter, put_entry_refusal};
 use units_io::Texts;
 
 // Appends why a load failed or an edit was refused.

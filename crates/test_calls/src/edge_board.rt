@@ -1,11 +1,11 @@
 //! Linked edges that calls operate on.
 
+use crate::lines::{
+    AnswerWriter, Answers, CallFault, meaning_of, put_answers, read_number, split_at_space,
+};
 use crate::marking::Marking;
 use edge_links::{Links, Nodes};
 use std::alloc::{AllocError, Global};
-use test_lines::{
-    AnswerWriter, Answers, CallFault, meaning_of, put_answers, read_number, split_at_space,
-};
 
 // A call, without its arguments. It is refused if a node does not exist or there is no room for an edge.
 #[derive(Clone, Copy)]

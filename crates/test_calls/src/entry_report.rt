@@ -5,10 +5,10 @@ ghost use Rattle.def_lines.specs.Kinds.{kind_of_line};
 ghost use Rattle.def_entry.specs.EntryReading.{has_entry};
 
 use crate::entry_text::put_entry;
+use crate::lines::{AnswerWriter, put_entry_refusal};
 use def_entry::{EntryFault, read_entry};
 use def_lines::{LineKind, Lines, classify, split_lines};
 use std::alloc::{AllocError, Global};
-use test_lines::{AnswerWriter, put_entry_refusal};
 use units_io::LONGEST_FILE;
 
 // How many rows of each kind a report has.

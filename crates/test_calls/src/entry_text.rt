@@ -1,8 +1,8 @@
 //! The texts of keys and entries.
 
+use crate::lines::{AnswerWriter, key_in};
 use def_entry::{Entry, FunctionDef, Key, What, key_text};
 use std::alloc::{AllocError, Global};
-use test_lines::{AnswerWriter, key_in};
 
 // Appends the text of a key, a description of its entry, and the text of its entry, separated by bars. The key is
 // written, read and written again, and the entry is that of a copy.

@@ -2,13 +2,13 @@
 
 use crate::edit_calls::{Edit, edit_text, settings_of};
 use crate::history_texts::{put_lines, put_value, undone_text};
+use crate::lines::{
+    AnswerWriter, Answers, CallFault, key_in, meaning_of, put_answers, split_at_space,
+};
 use edit_history::History;
 use live_table::LiveTable;
 use std::alloc::{AllocError, Global};
 use std::sync::ledger::Ledger;
-use test_lines::{
-    AnswerWriter, Answers, CallFault, key_in, meaning_of, put_answers, split_at_space,
-};
 use units_io::{Files, Steps};
 
 // A call, without its argument.

@@ -2,13 +2,13 @@
 
 ghost use Rattle.std.specs.Prelude.{◌≡◌};
 
+use crate::lines::AnswerWriter;
 use edit_history::HistoryFault;
 use expr_tree::{ParseFault, Tree, parse_expr};
 use live_table::{LiveTable, QueryFault};
 use quantity::Style;
 use std::alloc::Global;
 use std::sync::ledger::Ledger;
-use test_lines::AnswerWriter;
 use units_io::Steps;
 
 // Appends the value of an expression, or a message that there is none.

@@ -3,11 +3,11 @@
 use crate::deck_board::deck_answers;
 use crate::edge_board::edge_answers;
 use crate::entry_report::report_on;
+use crate::lines::meaning_of;
 use crate::stateless_kind::{StatelessKind, stateless_answers};
 use crate::table_kind::{TableKind, table_answers};
 use std::alloc::{AllocError, Global};
 use std::sync::ledger::Ledger;
-use test_lines::meaning_of;
 use units_io::{Files, Steps};
 
 // A kind of calls.

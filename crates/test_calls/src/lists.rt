@@ -1,11 +1,11 @@
 //! The answers to calls that count units.
 
 use crate::amount_reading::{read_quantity, read_units};
+use crate::lines::{AnswerWriter, CallFault};
 use crate::numbers::put_exact;
 use frac128::Frac;
 use quantity::Quantity;
 use std::alloc::Global;
-use test_lines::{AnswerWriter, CallFault};
 use unit_list::{SplitFault, split};
 
 // Appends the counts of units in a quantity.

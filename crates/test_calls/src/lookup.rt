@@ -5,11 +5,11 @@ ghost use Rattle.std.specs.List.{position};
 ghost use Rattle.def_entry.specs.Keys as key_spec;
 ghost use Rattle.def_entry.specs.SameKeys.{is_same_entry_key, is_same_key_kind};
 
+use crate::lines::{AnswerWriter, CallFault, key_in, meaning_of, split_at_space};
 use def_entry::{Key, Keys, Kind};
 use expr_tree::WordKind;
 use name_lookup::{Looking, Present, resolve};
 use std::alloc::{AllocError, Global};
-use test_lines::{AnswerWriter, CallFault, key_in, meaning_of, split_at_space};
 use units_io::Text;
 
 // A list of keys as a table.

@@ -18,6 +18,7 @@ mod entry_text;
 mod history_board;
 mod history_texts;
 mod kind;
+mod lines;
 mod lists;
 mod lookup;
 mod marking;
@@ -38,12 +39,12 @@ mod value_texts;
 ghost use Rattle.std.specs.Prelude.{◌≡◌, ◌<◌};
 
 use kind::{Kind, answers_to, read_kind};
+use lines::{first_word, read_all, refuse_kind, write_all};
 use std::alloc::AllocError;
 use std::io;
 use std::marker::Brand;
 use std::process::ExitCode;
 use std::sync::ledger::{Blank, Ledger};
-use test_lines::{first_word, read_all, refuse_kind, write_all};
 use units_io::{DirFiles, Steps};
 
 // Returns the answers to the lines over the system's files, with a step counter that nobody reads.

@@ -1,8 +1,8 @@
 //! The notation of trees: each has its kind before its parts, in parentheses, and words are in brackets.
 
+use crate::lines::AnswerWriter;
 use expr_tree::{Factors, Scale, Sign, Terms, Tree, Trees};
 use frac128::Numeral;
-use test_lines::AnswerWriter;
 
 // Appends a tree.
 #[cycle(put)]

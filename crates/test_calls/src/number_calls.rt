@@ -1,6 +1,6 @@
 //! The calls on fractions, numerals and their texts, and the words that name them.
 
-use test_lines::meaning_of;
+use crate::lines::meaning_of;
 
 // A call, without its arguments.
 #[derive(Clone, Copy)]

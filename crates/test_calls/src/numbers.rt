@@ -1,5 +1,6 @@
 //! The answers to calls on fractions, numerals and their texts.
 
+use crate::lines::{AnswerWriter, CallFault};
 use crate::number_calls::{NumberCall, Operator, Pair, Single, number_call};
 use crate::reading::{read_count, read_fraction, read_whole};
 use def_entry::cut_at;
@@ -8,7 +9,6 @@ use frac128::{Frac, FracFault, NumeralFault, numeral_len, read_numeral};
 use std::alloc::Global;
 use std::cmp::Ordering;
 use std::num::NonZeroU32;
-use test_lines::{AnswerWriter, CallFault};
 
 // Appends the answer to a call: a word, a space and the arguments of the word.
 pub(crate) fn put_number_answer(

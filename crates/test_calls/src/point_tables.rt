@@ -2,12 +2,12 @@
 
 use crate::amount_calls::Direction;
 use crate::amount_reading::read_points;
+use crate::lines::{AnswerWriter, CallFault};
 use crate::numbers::put_exact;
 use crate::reading::read_fraction;
 use frac128::Frac;
 use piecewise::{Points, PointsFault, TableFault};
 use std::alloc::{AllocError, Global};
-use test_lines::{AnswerWriter, CallFault};
 
 // Appends the number that a table returns.
 pub(crate) fn put_reading(

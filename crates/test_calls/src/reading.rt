@@ -2,11 +2,11 @@
 
 ghost use Rattle.std.specs.Prelude.{◌≤◌};
 
+use crate::lines::CallFault;
 use def_entry::cut_at;
 use frac128::Frac;
 use std::str;
 use std::str::FromStr;
-use test_lines::CallFault;
 
 // The number of significant digits to print.
 #[derive(Clone, Copy)]

@@ -3,13 +3,13 @@
 ghost use Rattle.reply.specs.Options.{AreReplyOptionsPrintable};
 
 use crate::choice::{default_options, read_options};
+use crate::lines::{AnswerWriter, Answers, CallFault, meaning_of, put_answers, split_at_space};
 use live_table::LiveTable;
 use quantity::Style;
 use reply::{FromValue, Options, Reply, convert_reply, definition_reply, from_value};
 use std::alloc::{AllocError, Global};
 use std::sync::ledger::Ledger;
 use survey::{check_report, conformable_reply, search_report};
-use test_lines::{AnswerWriter, Answers, CallFault, meaning_of, put_answers, split_at_space};
 use units_io::Steps;
 
 // A call, without its argument.

@@ -1,10 +1,10 @@
 //! The kinds of calls that do not depend on earlier ones.
 
 use crate::amounts::put_amount_answer;
+use crate::lines::{AnswerWriter, Answers, CallFault, put_answers};
 use crate::numbers::put_number_answer;
 use crate::texts::put_text_answer;
 use std::alloc::{AllocError, Global};
-use test_lines::{AnswerWriter, Answers, CallFault, put_answers};
 
 // A kind of calls that do not depend on earlier ones.
 #[derive(Clone, Copy)]

@@ -1,6 +1,6 @@
 //! The calls on expressions and names, and the words that name them.
 
-use test_lines::meaning_of;
+use crate::lines::meaning_of;
 
 // A call, without its text.
 #[derive(Clone, Copy)]

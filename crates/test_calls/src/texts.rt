@@ -1,11 +1,11 @@
 //! The answers to calls on expressions and names.
 
+use crate::lines::{AnswerWriter, CallFault, put_parse_refusal, split_at_space};
 use crate::lookup::put_lookup;
 use crate::notation::{put_tree, put_word};
 use crate::text_calls::{TextCall, TreeCall, text_call};
 use expr_tree::{Tree, WordKind, WordUse, is_name, is_refused, parse_expr, words};
 use std::alloc::{AllocError, Global};
-use test_lines::{AnswerWriter, CallFault, put_parse_refusal, split_at_space};
 
 // Appends the answer to a call with its text. If the text of a call on a tree has no tree, the answer is its fault.
 pub(crate) fn put_text_answer(

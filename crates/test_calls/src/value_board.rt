@@ -1,6 +1,9 @@
 //! A live table that queries and edits operate on.
 
 use crate::edit_calls::{Edit, edit_text, settings_of};
+use crate::lines::{
+    AnswerWriter, Answers, CallFault, key_in, put_answers, read_change, split_at_space,
+};
 use crate::value_calls::{ValueCall, value_call};
 use crate::value_texts::{put_counts, put_inverse, put_value};
 use deck::{DeckFault, Splice};
@@ -8,9 +11,6 @@ use live_table::LiveTable;
 use std::alloc::{AllocError, Global};
 use std::mem;
 use std::sync::ledger::Ledger;
-use test_lines::{
-    AnswerWriter, Answers, CallFault, key_in, put_answers, read_change, split_at_space,
-};
 use units_io::{Files, Steps};
 
 // The state between calls: the files to append, the table, the splice that undoes the last one, if there is one, and

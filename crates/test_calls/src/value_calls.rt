@@ -1,7 +1,7 @@
 //! The calls on a live table, and the words that name them.
 
 use crate::edit_calls::Edit;
-use test_lines::meaning_of;
+use crate::lines::meaning_of;
 
 // A call, without its argument.
 #[derive(Clone, Copy)]

@@ -6,6 +6,7 @@ ghost use Rattle.def_entry.specs.declared.key.Kind.TheVariants as kind;
 ghost use Rattle.def_entry.specs.Tables.{is_entry_present};
 ghost use Rattle.deck.specs.Tables.{table_of_deck};
 
+use crate::lines::{AnswerWriter, put_parse_refusal, split_at_space};
 use def_entry::Kind;
 use expr_tree::{Tree, parse_expr};
 use live_table::{LiveTable, QueryFault};
@@ -13,7 +14,6 @@ use quantity::{Quantity, Style};
 use reply::{put_name_fault, put_value_fault};
 use std::alloc::Global;
 use std::sync::ledger::Ledger;
-use test_lines::{AnswerWriter, put_parse_refusal, split_at_space};
 use units_io::Steps;
 
 // Appends the value of an expression.

@@ -1,16 +1,16 @@
 //! The loop over the lines of calls.
 
-use crate::answer_writer::AnswerWriter;
-use crate::fault::CallFault;
+use super::answer_writer::AnswerWriter;
+use super::fault::CallFault;
 use def_entry::cut_at;
 use std::alloc::Global;
 
-/// The state between calls.
-pub trait Answers {
-    /// States that the next call may be answered.
+// The state between calls.
+pub(crate) trait Answers {
+    // States that the next call may be answered.
     ghost is_ready: { Self → Type 0 } = { λ _. Unit {0} };
 
-    /// Appends the answer to a line, with the line feed of the answer. If the line is not a call, nothing is appended.
+    // Appends the answer to a line, with the line feed of the answer. If the line is not a call, nothing is appended.
     fn put_answer(
         &mut self,
         alloc: Global,
@@ -21,8 +21,13 @@ pub trait Answers {
         ensures { is_ready self.new };
 }
 
-/// Appends the answers to lines. The last one may lack its line feed.
-pub fn put_answers<A: Answers>(alloc: Global, answers: &mut A, lines: &[u8], out: &mut AnswerWriter)
+// Appends the answers to lines. The last one may lack its line feed.
+pub(crate) fn put_answers<A: Answers>(
+    alloc: Global,
+    answers: &mut A,
+    lines: &[u8],
+    out: &mut AnswerWriter,
+)
     requires { A.is_ready answers.old }
     ensures { A.is_ready answers.new }
 {

@@ -1,25 +1,25 @@
 //! The lines that a splice inserts and those that it cuts out.
 
-use crate::fault::CallFault;
-use crate::words::{read_number, split_at_space};
+use super::fault::CallFault;
+use super::words::{read_number, split_at_space};
 use deck_lines::{DeckLine, DeckLines};
 use std::alloc::{AllocError, Global};
 use units_io::Text;
 
-/// A replacement of lines by other lines.
+// A replacement of lines by other lines.
 #[derive(Drop)]
-pub struct Change {
-    /// The place of the first line to cut out.
-    pub at: usize,
-    /// The number of lines to cut out.
-    pub cut: usize,
-    /// The lines to insert, each with the number 0.
-    pub put: DeckLines,
+pub(crate) struct Change {
+    // The place of the first line to cut out.
+    pub(crate) at: usize,
+    // The number of lines to cut out.
+    pub(crate) cut: usize,
+    // The lines to insert, each with the number 0.
+    pub(crate) put: DeckLines,
 }
 
-/// Reads a place, the number of lines to cut out there, and the lines to insert there, which are separated by `;`. A
-/// `~` precedes each line that has the mark.
-pub fn read_change(alloc: Global, text: &[u8]) -> Result<Change, CallFault> {
+// Reads a place, the number of lines to cut out there, and the lines to insert there, which are separated by `;`. A
+// `~` precedes each line that has the mark.
+pub(crate) fn read_change(alloc: Global, text: &[u8]) -> Result<Change, CallFault> {
     let (at, text) = split_at_space(text);
     let (cut, lines) = split_at_space(text);
     let at = read_number(at)?;

@@ -1,5 +1,5 @@
 use Rattle.std.proofs.Common.{length}
-use Rattle.test_lines.proofs.answers.put_answers.Given as goal
+use Rattle.test_calls.proofs.lines.answers.put_answers.Given as goal
 
 abbrev pub invariant-loop-line : goal.invariant-loop-line
 invariant-loop-line g l = g.A.Answers.is_ready l.answers

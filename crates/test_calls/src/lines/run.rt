@@ -13,8 +13,8 @@ use std::rt::Env;
 // The number of bytes of a word that is not too long to name a kind.
 const LONGEST_WORD: usize = 256;
 
-/// Returns the first word of the command line, or an empty one if there is none.
-pub fn first_word<R: Env>(rt: &R, alloc: Global) -> Result<Vec<u8>, AllocError> {
+// Returns the first word of the command line, or an empty one if there is none.
+pub(crate) fn first_word<R: Env>(rt: &R, alloc: Global) -> Result<Vec<u8>, AllocError> {
     let mut word = vec![in alloc; 0u8; LONGEST_WORD]?;
     match rt.arg(1, word.as_mut_slice()) {
         Ok(len) => word.truncate(len),
@@ -24,9 +24,9 @@ pub fn first_word<R: Env>(rt: &R, alloc: Global) -> Result<Vec<u8>, AllocError> 
     Ok(word)
 }
 
-/// Writes a message that a program knows no calls of the kind with this name, and which kinds it knows. Returns the
-/// status 2.
-pub fn refuse_kind<O: Write>(
+// Writes a message that a program knows no calls of the kind with this name, and which kinds it knows. Returns the
+// status 2.
+pub(crate) fn refuse_kind<O: Write>(
     errors: &mut O,
     program: &[u8],
     name: &[u8],
@@ -47,15 +47,15 @@ pub fn refuse_kind<O: Write>(
     Ok(ExitCode::from(2))
 }
 
-/// Reads the input to its end.
-pub fn read_all<I: Read>(alloc: Global, input: &mut I) -> io::Result<Vec<u8>> {
+// Reads the input to its end.
+pub(crate) fn read_all<I: Read>(alloc: Global, input: &mut I) -> io::Result<Vec<u8>> {
     let mut lines = Vec::new(alloc);
     input.read_to_end(&mut lines)?;
     Ok(lines)
 }
 
-/// Writes the answers and returns the status 0.
-pub fn write_all<O: Write>(output: &mut O, answers: &[u8]) -> io::Result<ExitCode>
+// Writes the answers and returns the status 0.
+pub(crate) fn write_all<O: Write>(output: &mut O, answers: &[u8]) -> io::Result<ExitCode>
     ensures { IfOk result (λ code. exit_status code ≡ 0) }
 {
     output.write_all(answers)?;

@@ -2,12 +2,12 @@
 
 use std::alloc::AllocError;
 
-/// Why a line has no answer.
+// Why a line has no answer.
 #[derive(Clone, Copy)]
-pub enum CallFault {
-    /// The line is not a call.
+pub(crate) enum CallFault {
+    // The line is not a call.
     BadCall,
-    /// Memory ran out.
+    // Memory ran out.
     OutOfMemory,
 }
 
