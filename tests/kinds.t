@@ -1,11 +1,12 @@
 The first word on the command line of `test_calls` names the kind of its calls. A missing or unknown word is refused.
-The program has a stored run of the kind `values`; this file has runs of the other kinds.
+The program has a stored run of the kind `values`; this file has runs of the others, except
+that runs.t and streams.t have those of `runs` and `streams`.
 
   $ echo count | test_calls
-  test_calls: no kind of calls is named; the kinds are numbers, amounts, texts, entries, decks, edges, values, history and answers
+  test_calls: no kind of calls is named; the kinds are numbers, amounts, texts, entries, decks, edges, values, history, answers, runs and streams
   [2]
   $ echo count | test_calls units
-  test_calls: unknown kind of calls: units; the kinds are numbers, amounts, texts, entries, decks, edges, values, history and answers
+  test_calls: unknown kind of calls: units; the kinds are numbers, amounts, texts, entries, decks, edges, values, history, answers, runs and streams
   [2]
 
 Fractions, numerals and their texts.

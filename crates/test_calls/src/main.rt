@@ -15,6 +15,8 @@ mod edge_board;
 mod edit_calls;
 mod entry_report;
 mod entry_text;
+mod escapes;
+mod hindrance;
 mod history_board;
 mod history_texts;
 mod kind;
@@ -28,7 +30,10 @@ mod numbers;
 mod point_tables;
 mod reading;
 mod reply_board;
+mod run_board;
+mod run_setup;
 mod stateless_kind;
+mod stream_board;
 mod table_kind;
 mod text_calls;
 mod texts;
@@ -45,9 +50,9 @@ use std::io;
 use std::marker::Brand;
 use std::process::ExitCode;
 use std::sync::ledger::{Blank, Ledger};
-use units_io::{DirFiles, Steps};
+use units_io::Steps;
 
-// Returns the answers to the lines over the system's files, with a step counter that nobody reads.
+// Returns the answers to the lines, with a step counter that nobody reads.
 fn answers_on<L: Ledger>(
     rt: HostRuntime,
     kind: Kind,
@@ -59,14 +64,15 @@ fn answers_on<L: Ledger>(
     requires some { 0 < blank.parts }
 {
     let steps: Steps<L> = Steps::new(blank);
-    answers_to(rt.alloc(), DirFiles::new(rt), steps, kind, lines)
+    answers_to(rt, steps, kind, lines)
 }
 
 fn main(rt: HostRuntime) -> io::Result<ExitCode> {
     let alloc = rt.alloc();
     let name = first_word(&rt, alloc)?;
     let Some(kind) = read_kind(&name) else {
-        let kinds = b"numbers, amounts, texts, entries, decks, edges, values, history and answers";
+        let kinds =
+            b"numbers, amounts, texts, entries, decks, edges, values, history, answers, runs and streams";
         return refuse_kind(&mut rt.stderr(), b"test_calls", &name, kinds);
     };
     let lines = read_all(alloc, &mut rt.reader())?;
