@@ -2,9 +2,7 @@
 
 ghost use Rattle.std.specs.Prelude.{◌≡◌, ◌∷◌, [], ◌++◌, OnOk, OnErr};
 
-use smallvec::SmallVec;
 use std::alloc::{AllocError, Global};
-use std::default::MadeWith;
 use std::marker::Model;
 
 /// One target of a word. A word with two targets has two steps, in the order of the targets.
@@ -16,17 +14,10 @@ pub enum Step {
     To(usize),
 }
 
-// A small vector fills its unused places with this value.
-impl MadeWith<Global> for Step {
-    fn made_with(_alloc: Global) -> Step {
-        Step::Nowhere(0)
-    }
-}
-
-/// The steps of a name. The steps of a single word, which most names have, are stored inline, without an allocation.
+/// The steps of a name.
 #[derive(Drop)]
 pub struct StepList {
-    items: SmallVec<Step, 2>,
+    items: Vec<Step>,
 }
 
 impl Model for StepList {
@@ -44,7 +35,7 @@ impl StepList {
         ensures { result ≡ [] }
     {
         StepList {
-            items: SmallVec::new(alloc),
+            items: Vec::new(alloc),
         }
     }
 

@@ -2,16 +2,14 @@
 
 ghost use Rattle.std.specs.Prelude.{◌≡◌, IfOk};
 
-use smallvec::SmallVec;
 use std::alloc::{AllocError, Global};
 use std::cmp::Ordering;
 use std::marker::Model;
 
-/// The bytes of a name, which also define the order of names. A short name is stored inline, since each product copies
-/// the names of a factor.
+/// The bytes of a name, which also define the order of names.
 #[derive(Drop)]
 pub(crate) struct Name {
-    bytes: SmallVec<u8, 16>,
+    bytes: Vec<u8>,
 }
 
 impl Model for Name {
@@ -28,7 +26,7 @@ impl Name {
         ensures { IfOk result (λ name. name ≡ bytes.now) }
     {
         Ok(Name {
-            bytes: SmallVec::from_slice(alloc, bytes)?,
+            bytes: Vec::from_slice(alloc, bytes)?,
         })
     }
 
