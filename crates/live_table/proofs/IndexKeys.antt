@@ -1,8 +1,8 @@
 -- Keys in the form of bytes, by number.
-use Rattle.smallvec.specs.SmallVec.{SmallVec}
+use Rattle.std.specs.Global.{Vec}
 use Rattle.std.proofs.Common.{◌≡◌, ◌≤◌, ◌||◌, ◌&&◌, ℕ, suc, Bool, true, false, not, cond, eqb, List, [], ◌∷◌, ◌++◌}
-use Rattle.std.proofs.Common.{length, Option, Some, None, is_some, option_map, refl, sym, ◌∙◌, ap, subst, arith, get_or}
-use Rattle.std.specs.Prelude.{MatchBool, MatchOption}
+use Rattle.std.proofs.Common.{length, Option, Some, None, is_some, option_map, refl, sym, ◌∙◌, ap, arith, get_or}
+use Rattle.std.specs.Prelude.{MatchOption}
 use Rattle.std.specs.List.{All, list_any, position, slice_get}
 use Rattle.std.specs.Str.{bytes_eq}
 use Rattle.std.specs.Cmp.Lexicographic.{bytes_decides}
@@ -10,7 +10,7 @@ use Rattle.std.proofs.lemmas.Bool.{false_from_ne_true}
 use Rattle.std.proofs.lemmas.List.{map-append}
 use Rattle.std.proofs.lemmas.List.Quantifiers.{position-Some}
 use Rattle.std.proofs.lemmas.Option.{slice_get-get_or, slice_get-map}
-use Rattle.std.proofs.lemmas.List.Elements.{All-tail}
+use Rattle.std.proofs.lemmas.List.Elements.{All-head, All-push, All-same, All-tail, All-weaker}
 use Rattle.indexmap.specs.IndexSet.{insert_key}
 use Rattle.def_entry.specs.declared.key.Key.{Key}
 use Rattle.def_entry.specs.declared.key.Kind.{Kind}
@@ -20,10 +20,6 @@ use Rattle.def_entry.specs.SameKeys.{is_entry_key_among, is_same_entry_key, is_s
 use Rattle.def_entry.proofs.SameKeys.{same_entry_keys}
 use Rattle.live_table.specs.KeyIndex.{IsNodeKeyAdded, IsStoredNodeKey, decoded_node_key, decoded_node_keys}
 use Rattle.live_table.specs.KeyIndex.{node_key_bytes}
-
--- ---- properties of all items
-all_head : {A : Type 0} (P : A → Type 0) (x : A) (xs : List A) → All P (x ∷ xs) → P x
-all_head P x xs h = h 0 x (omega arith)
 
 -- ---- a key in the form of bytes
 -- kinds have the same number exactly if they are equal
@@ -67,26 +63,26 @@ equal_node_bytes_encode_key k w s e t = ap decoded_node_key (sym ((bytes_decides
 -- ---- the keys of an index
 module _ (room : ℕ) where
   -- a key is among the keys exactly if its bytes are among theirs
-  among_stored : (ss : List (SmallVec ℕ)) (k : Key) → All (IsStoredNodeKey room) ss
+  among_stored : (ss : List (Vec ℕ)) (k : Key) → All (IsStoredNodeKey room) ss
       → list_any (λ s. bytes_eq (node_key_bytes k) s.items) ss ≡ is_entry_key_among (decoded_node_keys ss) k
   among_stored [] k h = refl
   among_stored (s ∷ ss) k h =
       let here : bytes_eq (node_key_bytes k) s.items ≡ is_same_entry_key k (decoded_node_key s.items) =
       node_key_bytes_are_unique k s.items
-      (all_head (IsStoredNodeKey room) s ss h).0 in
+      (All-head (IsStoredNodeKey room) s ss h).0 in
       let there : list_any (λ s. bytes_eq (node_key_bytes k) s.items) ss ≡ is_entry_key_among (decoded_node_keys ss) k =
       among_stored ss k
       (All-tail (IsStoredNodeKey room) s ss h) in
       λ i. here i || there i
 
   -- a key is among the keys exactly if equal bytes are among theirs
-  pub among_found : (ss : List (SmallVec ℕ)) (k : Key) (w : List ℕ) → All (IsStoredNodeKey room) ss
+  pub among_found : (ss : List (Vec ℕ)) (k : Key) (w : List ℕ) → All (IsStoredNodeKey room) ss
       → w ≡ node_key_bytes k
       → list_any (λ s. bytes_eq w s.items) ss ≡ is_entry_key_among (decoded_node_keys ss) k
   among_found ss k w h e = ap (λ (b : List ℕ). list_any (λ s. bytes_eq b s.items) ss) e ∙ among_stored ss k h
 
   -- none of the keys is longer than the room
-  pub too_long : (ss : List (SmallVec ℕ)) (k : Key) → All (IsStoredNodeKey room) ss → room ≤ length k.name
+  pub too_long : (ss : List (Vec ℕ)) (k : Key) → All (IsStoredNodeKey room) ss → room ≤ length k.name
       → is_entry_key_among (decoded_node_keys ss) k ≡ false
   too_long [] k h le = refl
   too_long (s ∷ ss) k h le = λ i. other i || too_long ss k (All-tail (IsStoredNodeKey room) s ss h) le i
@@ -94,7 +90,7 @@ module _ (room : ℕ) where
       other : is_same_entry_key k (decoded_node_key s.items) ≡ false
       other = false_from_ne_true (is_same_entry_key k (decoded_node_key s.items))
           (λ t.
-          let p = all_head (IsStoredNodeKey room) s ss h in
+          let p = All-head (IsStoredNodeKey room) s ss h in
           let same : length k.name ≡ length (decoded_node_key s.items).name = ap (λ (q : Key). length q.name)
           ((same_entry_keys k (decoded_node_key s.items)).0 t) in
           let size : suc (length (decoded_node_key s.items).name) ≡ length s.items = ap length p.0 in
@@ -102,48 +98,58 @@ module _ (room : ℕ) where
           absurd (omega arith))
 
   -- the result of a lookup
-  pub number_in : (ss : List (SmallVec ℕ)) (k : Key) (w : List ℕ) (r : Option ℕ) → All (IsStoredNodeKey room) ss
+  pub number_in : (ss : List (Vec ℕ)) (k : Key) (w : List ℕ) (r : Option ℕ) → All (IsStoredNodeKey room) ss
       → w ≡ node_key_bytes k
       → r ≡ position (λ s. bytes_eq w s.items) ss → is_some r ≡ list_any (λ s. bytes_eq w s.items) ss
       → MatchOption r (is_entry_key_among (decoded_node_keys ss) k ≡ false)
       (λ n. slice_get (decoded_node_keys ss) n ≡ Some k)
   number_in ss k w None h e at found = sym (among_found ss k w h e) ∙ sym found
-  number_in ss k w (Some n) h e at found =
-      let none : SmallVec ℕ = record { items = []; capacity = 0 } in
-      let p = position-Some (λ (s : SmallVec ℕ). bytes_eq w s.items) ss n none (sym at) in
-      slice_get-map (λ (s : SmallVec ℕ). decoded_node_key s.items) ss n
-      ∙ (ap (option_map (λ (s : SmallVec ℕ). decoded_node_key s.items)) (slice_get-get_or ss n none p.0)
-      ∙ ap Some (equal_node_bytes_encode_key k w (get_or ss n none).items e p.1))
+  number_in [] k w (Some n) h e at found = absurd (cc)
+  number_in (s ∷ ss) k w (Some n) h e at found =
+      let p = position-Some (λ (s : Vec ℕ). bytes_eq w s.items) (s ∷ ss) n s (sym at) in
+      slice_get-map (λ (s : Vec ℕ). decoded_node_key s.items) (s ∷ ss) n
+      ∙ (ap (option_map (λ (s : Vec ℕ). decoded_node_key s.items)) (slice_get-get_or (s ∷ ss) n s p.0)
+      ∙ ap Some (equal_node_bytes_encode_key k w (get_or (s ∷ ss) n s).items e p.1))
 
 -- ---- one more key
-module _ (room : ℕ) (ss more : List (SmallVec ℕ)) (k : Key) (v : SmallVec ℕ) (h : All (IsStoredNodeKey room) ss)
-    (is : v.items ≡ node_key_bytes k) (put : more ≡ insert_key (λ a b. bytes_eq a.items b.items) ss v) where
-  -- these are the keys, with the additional one if it is new
-  abbrev AreThose : Bool → Type 0
-  AreThose b = MatchBool b
-      ((is_entry_key_among (decoded_node_keys ss) k ≡ false)
-      × (decoded_node_keys more ≡ decoded_node_keys ss ++ k ∷ []))
-      (decoded_node_keys more ≡ decoded_node_keys ss)
+module _ (room : ℕ) (ss more : List (Vec ℕ)) (old : List Key) (k : Key) (v : Vec ℕ) (h : All (IsStoredNodeKey room) ss)
+    (was : decoded_node_keys ss ≡ old) (is : v.items ≡ node_key_bytes k) (new : is_entry_key_among old k ≡ false)
+    (put : more ≡ insert_key (λ a b. bytes_eq a.items b.items) ss v) where
+  -- the bytes of a new key are appended
+  new_node_bytes_are_appended : more ≡ ss ++ v ∷ []
+  new_node_bytes_are_appended = put
+      ∙ ap (λ b. cond b ss (ss ++ v ∷ []))
+      (among_found room ss k v.items h is ∙ ap (λ (keys : List Key). is_entry_key_among keys k) was ∙ new)
 
-  -- a key has a number, the next one if it had none
-  pub key_gets_number : (n : ℕ) (is_new : Bool) → is_new ≡ not (list_any (λ s. bytes_eq v.items s.items) ss)
-      → ((s : SmallVec ℕ) × (slice_get more n ≡ Some s) × (bytes_eq v.items s.items ≡ true))
-      → IsNodeKeyAdded k (decoded_node_keys ss) (decoded_node_keys more) n is_new
-  key_gets_number n is_new flag at = record {
-    number = slice_get-map (λ (s : SmallVec ℕ). decoded_node_key s.items) more n
-        ∙ (ap (option_map (λ (s : SmallVec ℕ). decoded_node_key s.items)) at.1
-        ∙ ap Some (equal_node_bytes_encode_key k v.items at.0.items is at.2));
-    keys = by (list_any (λ s. bytes_eq v.items s.items) ss) refl flag put;
-  }
+  -- all keys fit into a room that has grown to fit the new key
+  pub node_keys_with_new_key_fit : (more_room : ℕ) → room ≤ more_room → length v.items ≤ more_room
+      → All (IsStoredNodeKey more_room) more
+  node_keys_with_new_key_fit more_room grown fits =
+      All-same (IsStoredNodeKey more_room) more (ss ++ v ∷ []) new_node_bytes_are_appended
+      (All-push (IsStoredNodeKey more_room) ss v
+      (All-weaker (IsStoredNodeKey room) (IsStoredNodeKey more_room) still ss h) (encodes, fits))
     where
-      by : (b : Bool) → list_any (λ s. bytes_eq v.items s.items) ss ≡ b → is_new ≡ not b
-          → more ≡ cond b ss (ss ++ v ∷ []) → AreThose is_new
-      by true f q e = subst AreThose (sym q) (ap decoded_node_keys e)
-      by false f q e = subst AreThose (sym q) (
-        sym (among_found room ss k v.items h is) ∙ f,
-        ap decoded_node_keys e ∙ (map-append (λ (s : SmallVec ℕ). decoded_node_key s.items) ss (v ∷ [])
-            ∙ (λ i. decoded_node_keys ss ++ (ap decoded_node_key is ∙ node_key_bytes_encode_key k) i ∷ [])),
-      )
+      still : (s : Vec ℕ) → IsStoredNodeKey room s → IsStoredNodeKey more_room s
+      still s stored = let short : length s.items ≤ room = stored.1 in (stored.0, omega arith)
+
+      encodes : node_key_bytes (decoded_node_key v.items) ≡ v.items
+      encodes = ap node_key_bytes (ap decoded_node_key is ∙ node_key_bytes_encode_key k) ∙ sym is
+
+  -- a new key gets the next number
+  pub new_node_key_gets_number : (n : ℕ)
+      → ((s : Vec ℕ) × (slice_get more n ≡ Some s) × (bytes_eq v.items s.items ≡ true))
+      → IsNodeKeyAdded k old (decoded_node_keys more) n true
+  new_node_key_gets_number n at = record {
+    number = slice_get-map (λ (s : Vec ℕ). decoded_node_key s.items) more n
+        ∙ (ap (option_map (λ (s : Vec ℕ). decoded_node_key s.items)) at.1
+        ∙ ap Some (equal_node_bytes_encode_key k v.items at.0.items is at.2));
+    keys = (
+      new,
+      ap decoded_node_keys new_node_bytes_are_appended
+          ∙ map-append (λ (s : Vec ℕ). decoded_node_key s.items) ss (v ∷ [])
+          ∙ (λ i. was i ++ (ap decoded_node_key is ∙ node_key_bytes_encode_key k) i ∷ []),
+    );
+  }
 
 -- a key that had no number is appended
 pub new_node_key_is_appended : (k : Key) (old new : List Key) (n : ℕ) (is_new : Bool)

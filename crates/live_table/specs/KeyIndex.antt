@@ -1,5 +1,5 @@
 -- The contents of an index of keys.
-use Rattle.smallvec.specs.SmallVec.{SmallVec}
+use Rattle.std.specs.Global.{Vec}
 use Rattle.std.specs.Prelude.{◌≡◌, ◌≤◌, ◌++◌, ◌∷◌, ℕ, Bool, false, List, [], map, length, Some, MatchBool, slice_get}
 use Rattle.def_entry.specs.declared.key.Key.{Key}
 use Rattle.def_entry.specs.declared.key.Kind.TheVariants as kind
@@ -17,11 +17,11 @@ decoded_node_key [] = key kind.Unit []
 decoded_node_key (byte ∷ name) = key (kind_at_key_order byte) name
 
 -- the keys, in the order of their numbers
-abbrev pub decoded_node_keys : List (SmallVec ℕ) → List Key
+abbrev pub decoded_node_keys : List (Vec ℕ) → List Key
 decoded_node_keys held = map (λ bytes. decoded_node_key bytes.items) held
 
 -- the bytes encode a key, and take no more than this room
-abbrev pub IsStoredNodeKey : ℕ → SmallVec ℕ → Type 0
+abbrev pub IsStoredNodeKey : ℕ → Vec ℕ → Type 0
 IsStoredNodeKey room bytes = (node_key_bytes (decoded_node_key bytes.items) ≡ bytes.items) × (length bytes.items ≤ room)
 
 -- a key has a number, the next one if it had none

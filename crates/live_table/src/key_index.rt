@@ -1,12 +1,12 @@
 //! A two-way index between keys and numbers.
 
-ghost use Rattle.std.specs.Prelude.{◌≡◌, ◌<◌, [], Some, false, length, slice_get, IfOk, IfSome, MatchOption, OnErr};
+ghost use Rattle.std.specs.Prelude.{◌≡◌, ◌<◌, [], Some, false, true, length, slice_get, IfOk, MatchOption, OnErr};
 ghost use Rattle.def_entry.specs.Keys.{key};
 ghost use Rattle.def_entry.specs.SameKeys.{is_entry_key_among};
 ghost use Rattle.live_table.specs.KeyIndex.{IsNodeKeyAdded, node_key_bytes};
 ghost use Rattle.live_table.specs.TableContents.{node_key_at};
 
-use crate::stored_keys::{StoredKey, is_short, kind_of_byte, overwrite, store};
+use crate::stored_keys::{StoredKey, kind_of_byte, overwrite, store};
 use def_entry::{Key, Kind};
 use indexmap::IndexSet;
 use std::alloc::{AllocError, Global};
@@ -35,7 +35,7 @@ pub(crate) struct Added {
 }
 
 impl Model for KeyIndex {
-    ghost use Rattle.std.specs.Prelude.{List};
+    ghost use Rattle.std.specs.Prelude.{List, vec_capacity};
     ghost use Rattle.std.specs.List.{All};
     ghost use Rattle.def_entry.specs.declared.key.Key.{Key};
     ghost use Rattle.live_table.specs.KeyIndex.{IsStoredNodeKey, decoded_node_keys};
@@ -44,7 +44,7 @@ impl Model for KeyIndex {
 
     ghost view = { λ x. decoded_node_keys x.keys.keys };
 
-    ghost invariant = { λ x. All (IsStoredNodeKey x.wanted.capacity) x.keys.keys };
+    ghost invariant = { λ x. All (IsStoredNodeKey (vec_capacity x.wanted)) x.keys.keys };
 }
 
 impl KeyIndex {
@@ -140,7 +140,8 @@ impl KeyIndex {
         self.keys.reserve(more)
     }
 
-    /// Returns the number of a key, and adds the key with the next number if it has none. On failure nothing changes.
+    /// Returns the number of a key, and adds the key with the next number if it has none. Allocates no memory for a key
+    /// that has a number. On failure nothing changes.
     pub(crate) fn add(
         &mut self,
         alloc: Global,
@@ -151,38 +152,30 @@ impl KeyIndex {
             added.is_new) }
         ensures err { OnErr result (self.new ≡ self.old) }
     {
-        if let Some(number) = self.number_of_long(kind, name) {
+        if let Some(number) = self.number_of(kind, name) {
             return Ok(Added {
                 number,
                 is_new: false,
             });
         }
-        self.insert(alloc, kind, name)
+        let number = self.insert(alloc, kind, name)?;
+        Ok(Added {
+            number,
+            is_new: true,
+        })
     }
 
-    // Returns the number of a key that is too long to be stored inline, if it has one. So no memory is allocated for a
-    // key that is known.
-    fn number_of_long(&mut self, kind: Kind, name: &[u8]) -> Option<usize>
-        ensures kept { self.new ≡ self.old }
-        ensures number { IfSome result (λ n. slice_get self.old n ≡ Some (key kind name.now)) }
-    {
-        if is_short(name) {
-            return None;
-        }
-        self.number_of(kind, name)
-    }
-
-    // Returns the number of a key, and stores the key if it has none.
-    fn insert(&mut self, alloc: Global, kind: Kind, name: &[u8]) -> Result<Added, AllocError>
-        ensures ok { IfOk result (λ added. IsNodeKeyAdded (key kind name.now) self.old self.new added.number
-            added.is_new) }
+    // Stores a new key, and returns its number. On failure nothing changes.
+    fn insert(&mut self, alloc: Global, kind: Kind, name: &[u8]) -> Result<usize, AllocError>
+        requires { is_entry_key_among self.old (key kind name.now) ≡ false }
+        ensures ok { IfOk result (λ n. IsNodeKeyAdded (key kind name.now) self.old self.new n true) }
         ensures err { OnErr result (self.new ≡ self.old) }
     {
         let bytes = store(alloc, kind, name)?;
         // Makes room to look the key up before it is added.
         self.wanted.clear();
         self.wanted.reserve(bytes.len())?;
-        let (number, is_new) = self.keys.insert_full(bytes)?;
-        Ok(Added { number, is_new })
+        let (number, _) = self.keys.insert_full(bytes)?;
+        Ok(number)
     }
 }

@@ -1,17 +1,27 @@
-use Rattle.std.proofs.Common.{List, subst}
+use Rattle.std.proofs.Common.{◌≤◌, arith, length, vec_capacity}
 use Rattle.def_entry.specs.Keys.{key}
-use Rattle.def_entry.specs.declared.key.Key.{Key}
-use Rattle.live_table.specs.KeyIndex.{IsNodeKeyAdded, decoded_node_keys}
-use Rattle.live_table.proofs.IndexKeys.{key_gets_number}
+use Rattle.live_table.proofs.IndexKeys.{new_node_key_gets_number, node_keys_with_new_key_fit}
 use Rattle.live_table.proofs.key_index.KeyIndex.insert.Goals as goal
 
 pub returns-clause-ok : goal.returns-clause-ok
 returns-clause-ok c =
-    let k = key c.args.kind c.args.name.now in
-    subst (λ (keys : List Key). IsNodeKeyAdded k keys (decoded_node_keys c.insert_full.new.self.keys)
-    c.in_ok-number.number
-    c.in_ok-number.is_new) c.self.view_is
-    (key_gets_number c.self.inside.wanted.capacity c.self.inside.keys.keys c.insert_full.new.self.keys k
-    c.in_ok-bytes.bytes
-    c.self.invariant c.in_ok-bytes.ensures c.in_ok-number.ensures.keys c.in_ok-number.number c.in_ok-number.is_new
-    c.in_ok-number.ensures.added c.in_ok-number.ensures.stored)
+    new_node_key_gets_number (vec_capacity c.self.inside.wanted) c.self.inside.keys.keys c.insert_full.new.self.keys
+    c.args.self.now (key c.args.kind c.args.name.now) c.in_ok-bytes.bytes c.self.invariant c.self.view_is
+    c.in_ok-bytes.ensures c.requires c.in_ok-number.ensures.keys c.in_ok-number.number c.in_ok-number.ensures.stored
+
+pub invariant_of-self-2 : goal.invariant_of-self-2
+invariant_of-self-2 c =
+    let grown : vec_capacity c.self.inside.wanted ≤ vec_capacity c.reserve.new.self = omega (
+      arith,
+      c.clear.ensures.capacity,
+      c.reserve.ensures.capacity,
+    ) in
+    let fits : length c.in_ok-bytes.bytes.items ≤ vec_capacity c.reserve.new.self = omega (
+      arith,
+      c.in_ok-bytes.bytes.ok.0,
+      c.len.ensures,
+      c.in_ok-reserve.ensures.ok,
+    ) in
+    node_keys_with_new_key_fit (vec_capacity c.self.inside.wanted) c.self.inside.keys.keys c.insert_full.new.self.keys
+    c.args.self.now (key c.args.kind c.args.name.now) c.in_ok-bytes.bytes c.self.invariant c.self.view_is
+    c.in_ok-bytes.ensures c.requires c.in_ok-number.ensures.keys (vec_capacity c.reserve.new.self) grown fits
