@@ -96,7 +96,7 @@ check_contents() {
     expect 'and GLIBC_2.34 at most by units-why' "${units_why:+GLIBC_2.34}" \
         "$(if [ "$units_why" ]; then grep -ao 'GLIBC_[0-9.]*' "$units_why" | sort -V | tail -n 1; fi)"
     expect 'the packages that it depends on' "${units_why:+libc6 (>= 2.34)}" "$(dpkg-deb -f "$deb" Depends)"
-    expect 'the licence of each crate' '' "$(for crate in clap csv memchr smallvec strsim; do
+    expect 'the licence of each crate' '' "$(for crate in clap csv memchr strsim; do
         grep -q -- "--- The crate $crate of" "$unpacked/usr/share/doc/exact-units/copyright" || echo "$crate"; done)"
     expect 'the licence of musl' 1 "$(grep -c 'Rich Felker' "$unpacked/usr/share/doc/exact-units/copyright")"
     if dpkg -L units > /dev/null 2>&1; then
