@@ -1,6 +1,6 @@
 //! The directives and their words.
 
-ghost use Rattle.std.specs.Prelude.{◌≡◌};
+ghost use Rattle.std.specs.Prelude.{◌≡◌, map};
 ghost use Rattle.def_lines.specs.Kinds.{directive_of_word, directives};
 
 /// A directive, named by the word after a `!`.
@@ -32,35 +32,37 @@ pub enum Directive {
     UnitList,
 }
 
+// The words of the directives.
+const DIRECTIVES: &[(&[u8], Directive)] = &[
+    (b"include", Directive::Include),
+    (b"locale", Directive::Locale),
+    (b"endlocale", Directive::EndLocale),
+    (b"set", Directive::Set),
+    (b"var", Directive::Var),
+    (b"varnot", Directive::VarNot),
+    (b"endvar", Directive::EndVar),
+    (b"utf8", Directive::Utf8),
+    (b"endutf8", Directive::EndUtf8),
+    (b"message", Directive::Message),
+    (b"prompt", Directive::Prompt),
+    (b"unitlist", Directive::UnitList),
+];
+
 // Returns the directive with this word.
 pub(crate) fn directive_of(word: &[u8]) -> Option<Directive>
     ensures { result ≡ directive_of_word word.now directives }
 {
-    if word == b"include".as_slice() {
-        Some(Directive::Include)
-    } else if word == b"locale".as_slice() {
-        Some(Directive::Locale)
-    } else if word == b"endlocale".as_slice() {
-        Some(Directive::EndLocale)
-    } else if word == b"set".as_slice() {
-        Some(Directive::Set)
-    } else if word == b"var".as_slice() {
-        Some(Directive::Var)
-    } else if word == b"varnot".as_slice() {
-        Some(Directive::VarNot)
-    } else if word == b"endvar".as_slice() {
-        Some(Directive::EndVar)
-    } else if word == b"utf8".as_slice() {
-        Some(Directive::Utf8)
-    } else if word == b"endutf8".as_slice() {
-        Some(Directive::EndUtf8)
-    } else if word == b"message".as_slice() {
-        Some(Directive::Message)
-    } else if word == b"prompt".as_slice() {
-        Some(Directive::Prompt)
-    } else if word == b"unitlist".as_slice() {
-        Some(Directive::UnitList)
-    } else {
-        None
+    directive_in(DIRECTIVES, word)
+}
+
+// Returns the directive of a word in a table.
+fn directive_in(table: &[(&[u8], Directive)], word: &[u8]) -> Option<Directive>
+    ensures { result ≡ directive_of_word word.now (map (λ entry. (entry.0.now, entry.1)) table.now) }
+{
+    for (name, directive) in table {
+        if word == *name {
+            return Some(*directive);
+        }
     }
+    None
 }
