@@ -11,13 +11,12 @@ use Rattle.expr_tree.specs.Tokens.{Token, Numeral, Word, Bar}
 use Rattle.expr_tree.specs.declared.token.Token.{Token as Made}
 
 -- the tree of a word alone is the word
-pub tree_of_word_token : (b : Option (List ℕ)) (w : List ℕ) → tree_of_token_list b (Word w ∷ []) ≡ Some
-    (word_syntax b w)
+tree_of_word_token : (b : Option (List ℕ)) (w : List ℕ) → tree_of_token_list b (Word w ∷ []) ≡ Some (word_syntax b w)
 unfolding tree_of_token_list
 tree_of_word_token b w = refl
 
 -- the tree of a numeral alone is the number
-pub tree_of_numeral_token : (b : Option (List ℕ)) (n : NumeralDecimal) → tree_of_token_list b (Numeral n ∷ []) ≡ Some
+tree_of_numeral_token : (b : Option (List ℕ)) (n : NumeralDecimal) → tree_of_token_list b (Numeral n ∷ []) ≡ Some
     (tree.Number n)
 unfolding tree_of_token_list
 tree_of_numeral_token b n = refl
@@ -35,6 +34,13 @@ tree_of_fraction_word_tokens : (b : Option (List ℕ)) (n d : NumeralDecimal) (w
     ≡ Some (juxtaposition_syntax (tree.Bar n d) (tree.Member (word_syntax b w) tree.NoMember))
 unfolding tree_of_token_list
 tree_of_fraction_word_tokens b n d w = refl
+
+-- a list of one token consists of this token
+list_of_one_token : (ts : List Made) (x : Made) (t : Token) → 1 ≤ length ts → length ts < 2 → x ≡ get_or ts 0 x
+    → token_view x ≡ t → map token_view ts ≡ t ∷ []
+list_of_one_token [] x t l m a e = absurd (omega (arith, l))
+list_of_one_token (p ∷ []) x t l m a e = ap (λ z. z ∷ []) (ap token_view (sym a) ∙ e)
+list_of_one_token (p ∷ q ∷ ts) x t l m a e = absurd (omega (arith, m))
 
 -- a list of two tokens consists of these tokens
 list_of_two_tokens : (ts : List Made) (x y : Made) (t u : Token) → 2 ≤ length ts → length ts < 3
@@ -59,6 +65,21 @@ list_of_four_tokens (p ∷ q ∷ r ∷ s ∷ []) x y z o t u v w l m a b c d e f
     ∙ (ap (λ i. t ∷ u ∷ i ∷ token_view s ∷ []) (ap token_view (sym c) ∙ g)
     ∙ ap (λ i. t ∷ u ∷ v ∷ i ∷ []) (ap token_view (sym d) ∙ h)))
 list_of_four_tokens (p ∷ q ∷ r ∷ s ∷ i ∷ ts) x y z o t u v w l m a b c d e f g h = absurd (omega (arith, m))
+
+-- the tree of a word
+pub tree_of_word_list : (b : Option (List ℕ)) (ts : List Made) (x : Made) (w : List ℕ) (e : Syntax)
+    → 1 ≤ length ts → length ts < 2 → x ≡ get_or ts 0 x → token_view x ≡ Word w → e ≡ word_syntax b w
+    → tree_of_token_list b (map token_view ts) ≡ Some e
+tree_of_word_list b ts x w e l m a is says =
+    ap (tree_of_token_list b) (list_of_one_token ts x (Word w) l m a is) ∙ (tree_of_word_token b w ∙ ap Some (sym says))
+
+-- the tree of a numeral
+pub tree_of_numeral_list : (b : Option (List ℕ)) (ts : List Made) (x : Made) (n : NumeralDecimal) (e : Syntax)
+    → 1 ≤ length ts → length ts < 2 → x ≡ get_or ts 0 x → token_view x ≡ Numeral n → e ≡ tree.Number n
+    → tree_of_token_list b (map token_view ts) ≡ Some e
+tree_of_numeral_list b ts x n e l m a is says =
+    ap (tree_of_token_list b) (list_of_one_token ts x (Numeral n) l m a is)
+    ∙ (tree_of_numeral_token b n ∙ ap Some (sym says))
 
 -- the tree of a numeral before a word
 pub tree_of_scaled_word_list : (b : Option (List ℕ)) (ts : List Made) (x y : Made) (n : NumeralDecimal) (w : List ℕ)

@@ -32,52 +32,25 @@ pub(crate) fn tree_of_tokens(
     ensures { IfOk result (λ e. tree_of_token_list (option_copied binder.entry) (map token_view tokens.now)
         ≡ Some (syntax e)) }
 {
-    match usual_tree(alloc, tokens, binder)? {
-        Some(tree) => Ok(tree),
-        None => tree_of_sum(alloc, tokens, binder),
-    }
-}
-
-// Returns the tree of a word, a numeral, or a numeral or fraction before a word, or `None` for any other tokens.
-fn usual_tree(
-    alloc: Global,
-    tokens: &[Token],
-    binder: Option<&[u8]>,
-) -> Result<Option<Tree>, AllocError>
-    ensures { IfOk result (λ found. IfSome found
-        (λ e. tree_of_token_list (option_copied binder.entry) (map token_view tokens.now) ≡ Some (syntax e))) }
-{
     match tokens {
-        [only] => tree_of_one(alloc, only, binder),
+        [only] => match only {
+            Token::Word(word) => word_tree(alloc, word, binder),
+            Token::Numeral(n) => Ok(Tree::Number(*n)),
+            _ => tree_of_sum(alloc, tokens, binder),
+        },
         [scale, last] => match (scale, last) {
             (Token::Numeral(n), Token::Word(word)) => {
-                Ok(Some(scaled_tree(alloc, Tree::Number(*n), word, binder)?))
+                scaled_tree(alloc, Tree::Number(*n), word, binder)
             }
-            _ => Ok(None),
+            _ => tree_of_sum(alloc, tokens, binder),
         },
         [top, bar, bottom, last] => match (top, bar, bottom, last) {
             (Token::Numeral(n), Token::Bar, Token::Numeral(d), Token::Word(word)) => {
-                Ok(Some(fraction_word_tree(alloc, *n, *d, word, binder)?))
+                fraction_word_tree(alloc, *n, *d, word, binder)
             }
-            _ => Ok(None),
+            _ => tree_of_sum(alloc, tokens, binder),
         },
-        _ => Ok(None),
-    }
-}
-
-// Returns the tree of a word or a numeral, or `None` for any other token.
-fn tree_of_one(
-    alloc: Global,
-    token: &Token,
-    binder: Option<&[u8]>,
-) -> Result<Option<Tree>, AllocError>
-    ensures { IfOk result (λ found. IfSome found
-        (λ e. tree_of_token_list (option_copied binder.entry) (token_view token.now ∷ []) ≡ Some (syntax e))) }
-{
-    match token {
-        Token::Word(word) => Ok(Some(word_tree(alloc, word, binder)?)),
-        Token::Numeral(n) => Ok(Some(Tree::Number(*n))),
-        _ => Ok(None),
+        _ => tree_of_sum(alloc, tokens, binder),
     }
 }
 
