@@ -3,8 +3,11 @@
 ghost use Rattle.std.specs.Prelude.{◌≡◌, IfOk};
 ghost use Rattle.expr_tree.specs.Trees.{syntax, syntax_of_factors, syntax_of_terms, syntax_of_trees};
 
+use crate::operator::Sign;
 use crate::tree::{Factors, Terms, Tree, Trees};
-use crate::tree_building::{bar_tree, tree_in_box, word_in_box};
+use crate::tree_building::{
+    bar_tree, call_tree, group_tree, inverse_tree, power_tree, root_tree, signed_tree, word_tree,
+};
 use std::alloc::{AllocError, Global};
 
 impl Tree {
@@ -16,36 +19,25 @@ impl Tree {
         match self {
             Tree::Number(x) => Ok(Tree::Number(*x)),
             Tree::Bar(quotient) => bar_tree(alloc, quotient.top, quotient.bottom),
-            Tree::Word(word) => Ok(Tree::Word(word.copy(alloc)?)),
+            Tree::Word(word) => word_tree(alloc, word.as_bytes(), None),
             Tree::Argument => Ok(Tree::Argument),
             Tree::Call(word, operand) => {
-                let word = word_in_box(alloc, word.as_bytes())?;
-                Ok(Tree::Call(word, operand.copy_in_box(alloc)?))
+                call_tree(alloc, word.as_bytes(), operand.copy(alloc)?, None)
             }
             Tree::Inverse(word, operand) => {
-                let word = word_in_box(alloc, word.as_bytes())?;
-                Ok(Tree::Inverse(word, operand.copy_in_box(alloc)?))
+                inverse_tree(alloc, word.as_bytes(), operand.copy(alloc)?)
             }
-            Tree::Root(kind, operand) => Ok(Tree::Root(*kind, operand.copy_in_box(alloc)?)),
-            Tree::Group(operand) => Ok(Tree::Group(operand.copy_in_box(alloc)?)),
-            Tree::Negate(operand) => Ok(Tree::Negate(operand.copy_in_box(alloc)?)),
+            Tree::Root(kind, operand) => root_tree(alloc, *kind, operand.copy(alloc)?),
+            Tree::Group(operand) => group_tree(alloc, operand.copy(alloc)?),
+            Tree::Negate(operand) => signed_tree(alloc, Sign::Minus, operand.copy(alloc)?),
             Tree::Power(base, exponent) => {
-                let base = base.copy_in_box(alloc)?;
-                Ok(Tree::Power(base, exponent.copy_in_box(alloc)?))
+                let base = base.copy(alloc)?;
+                power_tree(alloc, base, exponent.copy(alloc)?)
             }
             Tree::Juxtaposed(members) => Ok(Tree::Juxtaposed(members.copy(alloc)?)),
             Tree::Product(members) => Ok(Tree::Product(members.copy(alloc)?)),
             Tree::Sum(members) => Ok(Tree::Sum(members.copy(alloc)?)),
         }
-    }
-
-    // Returns an equal tree in a box.
-    #[cycle(copy)]
-    fn copy_in_box(&self, alloc: Global) -> Result<Box<Tree>, AllocError>
-        ensures { IfOk result (λ tree. syntax tree.value ≡ syntax self.now) }
-    {
-        let tree = self.copy(alloc)?;
-        tree_in_box(alloc, tree)
     }
 }
 
