@@ -1,7 +1,7 @@
 //! Recursive descent over tokens that are already known to fit. Each rule of the grammar has a function, which returns
 //! the tree at a place and the place after it. Calls nest as deep as the tokens do.
 
-ghost use Rattle.std.specs.Prelude.{◌≡◌, ◌+◌, ◌<◌, ◌≤◌, ◌∷◌, [], true, IfOk, IfSome, Some, map};
+ghost use Rattle.std.specs.Prelude.{◌≡◌, ◌+◌, ◌<◌, ◌≤◌, ◌∷◌, true, IfOk, Some, map};
 ghost use Rattle.std.specs.Option.{option_copied};
 ghost use Rattle.expr_tree.specs.Front.{AtomTreeAt, ExponentTreeAt, IsSumInParens, IsTreeReadAt, JuxtapositionTreeAt};
 ghost use Rattle.expr_tree.specs.Front.{PowerTreeAt, ProductTreeAt, SumTreeAt, tokens_begin_operand, tokens_from};

@@ -20,14 +20,14 @@ pub(crate) fn bar_tree(alloc: Global, top: Numeral, bottom: Numeral) -> Result<T
 }
 
 // Returns the tree in a box.
-pub(crate) fn tree_in_box(alloc: Global, tree: Tree) -> Result<Box<Tree>, AllocError>
+fn tree_in_box(alloc: Global, tree: Tree) -> Result<Box<Tree>, AllocError>
     ensures { IfOk result (λ boxed. boxed.value ≡ tree) }
 {
     Ok(Box::new(alloc, tree)?)
 }
 
 // Returns the bytes of a word in a box.
-pub(crate) fn word_in_box(alloc: Global, word: &[u8]) -> Result<Box<Text>, AllocError>
+fn word_in_box(alloc: Global, word: &[u8]) -> Result<Box<Text>, AllocError>
     ensures { IfOk result (λ boxed. boxed.value ≡ word.now) }
 {
     let text = Text::from_bytes(alloc, word)?;

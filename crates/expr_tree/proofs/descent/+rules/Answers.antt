@@ -36,6 +36,9 @@ not_none : {A : Type 0} (o : Option A) → is_some o ≡ true → o ≡ None →
 not_none None h e = cc
 not_none (Some x) h e = cc
 
+pub atom_at-bounds-tokens-at : goal.atom_at-bounds-tokens-at
+atom_at-bounds-tokens-at t c = omega (arith, operand_has_token c.args.tokens.now c.args.at c.requires.begun)
+
 pub atom_at-closed_sum_at-requires-in-Root : goal.atom_at-closed_sum_at-requires-in-Root
 atom_at-closed_sum_at-requires-in-Root t c =
     let r = root_tokens_at_place c.args.tokens.now c.args.at c.args.opened c.in-Root.kind _
@@ -130,6 +133,11 @@ closed_sum_at-returns t c =
       omega (arith, q.0.within),
     )
 
+pub exponent_at-overflow_add-at : goal.exponent_at-overflow_add-at
+exponent_at-overflow_add-at t c =
+    let p = sign_token_at_place c.args.tokens.now c.args.at c.in-Some.sign (sym c.in-Some.ensures) in
+    omega (arith, p.within)
+
 pub exponent_at-exponent_at-requires : goal.exponent_at-exponent_at-requires
 exponent_at-exponent_at-requires t c =
     let p = sign_token_at_place c.args.tokens.now c.args.at c.in-Some.sign (sym c.in-Some.ensures) in (
@@ -151,6 +159,10 @@ exponent_at-returns-in-None t c =
     power_read_is_exponent (option_copied c.args.binder) c.args.opened c.args.tokens.now c.args.at c.power_at.result
     c.power_at.ensures
 
+pub inverse_at-bounds-tokens-at : goal.inverse_at-bounds-tokens-at
+inverse_at-bounds-tokens-at t c =
+    omega (arith, wanted_head_has_token c.args.tokens.now c.args.at c.args.opened c.requires.fit)
+
 pub inverse_at-returns : goal.inverse_at-returns
 inverse_at-returns t c = (
   inverse_tokens_are_atom (option_copied c.args.binder) c.args.opened c.in-Head.word.now _ _ _ _ _
@@ -161,6 +173,11 @@ inverse_at-returns t c = (
   omega (arith, c.in_ok-operand-in-Head.ensures.1),
   c.in_ok-operand-in-Head.ensures.2,
 )
+
+pub juxtaposition_at-overflow_add-at : goal.juxtaposition_at-overflow_add-at
+juxtaposition_at-overflow_add-at t c =
+    let p = sign_token_at_place c.args.tokens.now c.args.at c.in-Some.sign (sym c.in-Some.ensures) in
+    omega (arith, p.within)
 
 pub juxtaposition_at-juxtaposition_at-requires : goal.juxtaposition_at-juxtaposition_at-requires
 juxtaposition_at-juxtaposition_at-requires t c =
