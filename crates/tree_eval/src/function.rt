@@ -5,7 +5,7 @@ ghost use Rattle.def_entry.specs.Entries as entry;
 ghost use Rattle.def_entry.specs.Views.{function_entry_view, table_entry_view};
 ghost use Rattle.expr_tree.specs.declared.word_list.WordUse.{WordUse};
 ghost use Rattle.expr_tree.specs.Trees.{syntax};
-ghost use Rattle.tree_eval.specs.Answers.{GivesValueOrFault, IsEvalResult};
+ghost use Rattle.tree_eval.specs.Answers.{GivesValueOrFault, IsEvalResult, amount_of_held_value};
 ghost use Rattle.tree_eval.specs.Directions.{HasCallableRank, direction_value};
 ghost use Rattle.tree_eval.specs.Ends.{value_tested_at_end};
 ghost use Rattle.tree_eval.specs.Entries.{eval_tree_words_if};
@@ -115,8 +115,7 @@ fn apply_function<E: Env>(
     check_end(alloc, env, id, &End::argument(f), arg)?;
     let holder = Holder::Of(id, Part::Forward);
     let result = evaluate_holder(alloc, env, holder, &f.forward, Some(arg))?;
-    check_end(alloc, env, id, &End::result(f), result.get())?;
-    Ok(result.own(alloc)?)
+    own_at_end(alloc, env, id, &End::result(f), result)
 }
 
 // Evaluates the inverse of a function at a value.
@@ -139,8 +138,27 @@ fn unapply_function<E: Env>(
     check_end(alloc, env, id, &End::value(f), value)?;
     let holder = Holder::Of(id, Part::Inverse);
     let result = evaluate_holder(alloc, env, holder, inverse, Some(value))?;
-    check_end(alloc, env, id, &End::inverse(f), result.get())?;
-    Ok(result.own(alloc)?)
+    own_at_end(alloc, env, id, &End::inverse(f), result)
+}
+
+// Returns a quantity that meets the requirements of one end of a function, copied if it is borrowed.
+#[cycle(eval)]
+fn own_at_end<E: Env>(
+    alloc: Global,
+    env: &E,
+    id: usize,
+    end: &End<'_>,
+    held: Held<'_>,
+) -> Result<Quantity, EvalFault>
+    requires has { IsTrue (E.has env.now id) }
+    requires words { E.words env.now (Holder.Of id end.now.part)
+        ≡ eval_tree_words_if (option_map syntax end.now.unit.now) }
+    ensures { IsEvalResult result (value_tested_at_end (expanded.eval_callable_name (E.callee env.now id))
+        (spec.optional_unit_value (expand_if (E.means env.now) (option_map syntax end.now.unit.now))) end.now
+        (amount_of_held_value held.entry)) }
+{
+    check_end(alloc, env, id, end, held.get())?;
+    Ok(held.own(alloc)?)
 }
 
 // Checks that a quantity meets the requirements of one end of a function.

@@ -1,4 +1,4 @@
-use Rattle.std.proofs.Common.{rules, arith, Ok, ap, sym, ◌∙◌}
+use Rattle.std.proofs.Common.{arith, ap, sym, ◌∙◌}
 use Rattle.std.specs.Option.{option_copied}
 use Rattle.std.proofs.lemmas.Result.{err_from_is_err_and}
 use Rattle.def_entry.specs.Views.{entry_definition_view}
@@ -38,7 +38,7 @@ scope::Scope::evaluate-evaluate_use-requires g t c κs within =
     ∙ (c.view_law.ensures.call c.in-Call.field-0 c.in-Call.operand
     ∙ ap (λ y. tree.Call c.in-Call.field-0.value (syntax y)) (sym c.deref-in-Call.ensures)))
     c.requires (g.E.Env.means c.args.self.now.env.now) in
-    search (rules, arith, part.within, part.lighter, part.stand)
+    (omega (arith, part.lighter), (within, (part.within, part.stand)))
 
 pub scope::Scope::evaluate-returns-in-Call-clause-value_or_fault
     : goal.scope::Scope::evaluate-returns-in-Call-clause-value_or_fault
@@ -57,7 +57,7 @@ scope::Scope::evaluate-evaluate_use-requires-in-Inverse g t c κs within =
     ∙ (c.view_law.ensures.inverse c.in-Inverse.field-0 c.in-Inverse.operand
     ∙ ap (λ y. tree.Inverse c.in-Inverse.field-0.value (syntax y)) (sym c.deref-in-Inverse.ensures)))
     c.requires (g.E.Env.means c.args.self.now.env.now) in
-    search (rules, arith, part.within, part.lighter, part.stand)
+    (omega (arith, part.lighter), (within, (part.within, part.stand)))
 
 pub scope::Scope::evaluate-returns-in-Inverse-clause-value_or_fault
     : goal.scope::Scope::evaluate-returns-in-Inverse-clause-value_or_fault
@@ -74,7 +74,7 @@ scope::Scope::evaluate-evaluate-requires g t c κs within =
     (ap syntax c.in-Group.is
     ∙ (c.view_law.ensures.group c.in-Group.operand ∙ ap (λ y. tree.Group (syntax y)) (sym c.deref-in-Group.ensures)))
     c.requires in
-    search (rules, arith, part.lighter, part.stand)
+    (omega (arith, part.lighter), (within, part.stand))
 
 pub scope::Scope::evaluate-root-requires : goal.scope::Scope::evaluate-root-requires
 scope::Scope::evaluate-root-requires g t c κs within =
@@ -82,7 +82,7 @@ scope::Scope::evaluate-root-requires g t c κs within =
     (ap syntax c.in-Root.is
     ∙ (c.view_law.ensures.root c.in-Root.kind c.in-Root.operand
     ∙ ap (λ y. tree.Root c.in-Root.kind (syntax y)) (sym c.deref-in-Root.ensures))) c.requires in
-    search (rules, arith, part.lighter, part.stand)
+    (omega (arith, part.lighter), (within, part.stand))
 
 pub scope::Scope::evaluate-evaluate_negative-requires : goal.scope::Scope::evaluate-evaluate_negative-requires
 scope::Scope::evaluate-evaluate_negative-requires g t c κs within =
@@ -90,7 +90,7 @@ scope::Scope::evaluate-evaluate_negative-requires g t c κs within =
     (ap syntax c.in-Negate.is
     ∙ (c.view_law.ensures.negate c.in-Negate.operand
     ∙ ap (λ y. tree.Negate (syntax y)) (sym c.deref-in-Negate.ensures))) c.requires in
-    search (rules, arith, part.lighter, part.stand)
+    (omega (arith, part.lighter), (within, part.stand))
 
 pub scope::Scope::evaluate-power-requires : goal.scope::Scope::evaluate-power-requires
 scope::Scope::evaluate-power-requires g t c κs within =
@@ -99,14 +99,14 @@ scope::Scope::evaluate-power-requires g t c κs within =
     ∙ (c.view_law.ensures.power c.in-Power.base c.in-Power.exponent
     ∙ λ i. tree.Power (syntax (sym c.deref-in-Power.ensures i)) (syntax (sym c.deref-in-Power-2.ensures i))))
     c.requires in
-    search (rules, arith, pair.lighter, pair.stand)
+    (omega (arith, pair.lighter), (within, pair.stand))
 
 pub scope::Scope::power-evaluate-requires : goal.scope::Scope::power-evaluate-requires
 scope::Scope::power-evaluate-requires g t c κs within =
     let lighter = base_lighter (g.E.Env.means c.args.self.now.env.now) (syntax c.args.base.now)
     (syntax c.args.exponent.now) in
     let stand = base_stands _ _ (syntax c.args.base.now) (syntax c.args.exponent.now) c.requires in
-    search (rules, arith)
+    (omega (arith, lighter), (within, stand))
 
 pub scope::Scope::power-evaluate-requires-2 : goal.scope::Scope::power-evaluate-requires-2
 scope::Scope::power-evaluate-requires-2 g t c κs within =
@@ -114,13 +114,13 @@ scope::Scope::power-evaluate-requires-2 g t c κs within =
     (syntax c.args.exponent.now) in
     let stand = exponent_stands _ _ (syntax c.args.base.now) (syntax c.args.exponent.now) c.requires
     c.in_ok-evaluate.ensures.place in
-    search (rules, arith)
+    (omega (arith, lighter), (within, stand))
 
 pub scope::Scope::evaluate-evaluate_juxtaposition-requires : goal.scope::Scope::evaluate-evaluate_juxtaposition-requires
 scope::Scope::evaluate-evaluate_juxtaposition-requires g t c κs within =
     let is = juxtaposed_is (g.E.Env.means c.args.self.now.env.now) {e = syntax c.args.tree.now} _
     (ap syntax c.in-Juxtaposed.is ∙ c.view_law.ensures.juxtaposition c.in-Juxtaposed.trees) in
-    search (rules, arith, chain_lighter is, chain_stands is _ _ c.requires)
+    (omega (arith, chain_lighter is), (within, chain_stands is _ _ c.requires))
 
 pub scope::Scope::evaluate-returns-in-Juxtaposed-clause-value_or_fault
     : goal.scope::Scope::evaluate-returns-in-Juxtaposed-clause-value_or_fault
@@ -140,7 +140,7 @@ pub scope::Scope::evaluate-chain-requires : goal.scope::Scope::evaluate-chain-re
 scope::Scope::evaluate-chain-requires g t c κs within =
     let is = product_is (g.E.Env.means c.args.self.now.env.now) {e = syntax c.args.tree.now} _
     (ap syntax c.in-Product.is ∙ c.view_law.ensures.product c.in-Product.factors) in
-    search (rules, arith, chain_lighter is, chain_stands is _ _ c.requires)
+    (omega (arith, chain_lighter is), (within, chain_stands is _ _ c.requires))
 
 pub scope::Scope::evaluate-returns-in-Product-clause-value_or_fault
     : goal.scope::Scope::evaluate-returns-in-Product-clause-value_or_fault
@@ -159,7 +159,7 @@ pub scope::Scope::evaluate-chain-requires-in-Sum : goal.scope::Scope::evaluate-c
 scope::Scope::evaluate-chain-requires-in-Sum g t c κs within =
     let is = sum_is (g.E.Env.means c.args.self.now.env.now) {e = syntax c.args.tree.now} _
     (ap syntax c.in-Sum.is ∙ c.view_law.ensures.sum c.in-Sum.terms) in
-    search (rules, arith, chain_lighter is, chain_stands is _ _ c.requires)
+    (omega (arith, chain_lighter is), (within, chain_stands is _ _ c.requires))
 
 pub scope::Scope::evaluate-returns-in-Sum-clause-value_or_fault
     : goal.scope::Scope::evaluate-returns-in-Sum-clause-value_or_fault
@@ -182,20 +182,20 @@ pub scope::Scope::evaluate_use-evaluate-requires : goal.scope::Scope::evaluate_u
 scope::Scope::evaluate_use-evaluate-requires g t c κs within =
     let lighter = operand_lighter _ _ c.requires.within _ _ _ _ c.in_ok-meaning.ensures.reports c.args.direction
     (expand (g.E.Env.means c.args.self.now.env.now) (syntax c.args.operand.now)) in
-    search (rules, arith, lighter, operand_stands _ _ _ _ c.requires.stand c.in_ok-meaning.ensures.place)
+    (omega (arith, lighter), (within, operand_stands _ _ _ _ c.requires.stand c.in_ok-meaning.ensures.place))
 
 pub scope::Scope::evaluate_use-join_member-requires : goal.scope::Scope::evaluate_use-join_member-requires
 scope::Scope::evaluate_use-join_member-requires g t c κs within =
     let lighter = operand_lighter _ _ c.requires.within _ _ _ _ c.in_ok-meaning.ensures.reports c.args.direction
     (expand (g.E.Env.means c.args.self.now.env.now) (syntax c.args.operand.now)) in
-    search (rules, arith, lighter, operand_stands _ _ _ _ c.requires.stand c.in_ok-meaning.ensures.place)
+    (omega (arith, lighter), (within, operand_stands _ _ _ _ c.requires.stand c.in_ok-meaning.ensures.place))
 
 pub scope::Scope::evaluate_use-put_taken-requires : goal.scope::Scope::evaluate_use-put_taken-requires
 scope::Scope::evaluate_use-put_taken-requires g t c κs within =
     let lighter = function_lighter _ _ c.requires.within _ _ _ _ c.in_ok-meaning.ensures.reports c.args.direction
     (expand (g.E.Env.means c.args.self.now.env.now) (syntax c.args.operand.now)) c.in-Function.is in
     let has = use_has_function _ _ c.requires.within _ _ _ _ c.in_ok-meaning.ensures.reports c.in-Function.is in
-    search (rules, arith, lighter, has)
+    (omega (arith, lighter), (within, has))
 
 pub scope::Scope::evaluate_use-returns-in_err-put_word-clause-value_or_fault
     : goal.scope::Scope::evaluate_use-returns-in_err-put_word-clause-value_or_fault
@@ -251,7 +251,7 @@ scope::Scope::evaluate_juxtaposition-returns-in_ok-meaning-in-Some-clause-place 
 pub scope::Scope::chain-evaluate-requires : goal.scope::Scope::chain-evaluate-requires
 scope::Scope::chain-evaluate-requires g t c κs within =
     let lighter = first_lighter _ c.get.ensures (g.E.Env.means c.args.self.now.env.now) in
-    search (rules, arith, lighter, first_stand _ c.get.ensures _ _ c.requires)
+    (omega (arith, lighter), (within, first_stand _ c.get.ensures _ _ c.requires))
 
 pub scope::Scope::chain-returns-in_err-evaluate-clause-value_or_fault
     : goal.scope::Scope::chain-returns-in_err-evaluate-clause-value_or_fault
@@ -267,7 +267,7 @@ scope::Scope::chain-loop-i-init g t c =
 pub scope::Scope::chain-with_member-requires : goal.scope::Scope::chain-with_member-requires
 scope::Scope::chain-with_member-requires g t c κs within =
     let lighter = member_lighter c.loop-i.invariant c.get-in-loop-i.ensures in
-    search (rules, arith, lighter, member_stand c.loop-i.invariant c.get-in-loop-i.ensures)
+    (omega (arith, lighter), (within, member_stand c.loop-i.invariant c.get-in-loop-i.ensures))
 
 pub scope::Scope::chain-returns-in_err-with_member-clause-value_or_fault
     : goal.scope::Scope::chain-returns-in_err-with_member-clause-value_or_fault

@@ -67,6 +67,10 @@ decreases-function::apply_table g l = 8 * weight_callable (g.E.Env.callee l.env.
 abbrev pub decreases-function::unapply_table : goal.decreases-function::unapply_table
 decreases-function::unapply_table g l = 8 * weight_callable (g.E.Env.callee l.env.now l.id) + 2
 
+abbrev pub decreases-function::own_at_end : goal.decreases-function::own_at_end
+decreases-function::own_at_end g l =
+    8 * weight_given (expand_if (g.E.Env.means l.env.now) (option_map syntax l.end.now.unit.now)) + 5
+
 abbrev pub decreases-function::check_end : goal.decreases-function::check_end
 decreases-function::check_end g l =
     8 * weight_given (expand_if (g.E.Env.means l.env.now) (option_map syntax l.end.now.unit.now)) + 4
