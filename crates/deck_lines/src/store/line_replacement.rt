@@ -58,21 +58,13 @@ fn exchange_marked(
     ensures err { OnErr result ((lines.new.items ≡ lines.old.items) × (marks.new.items ≡ marks.old.items)) }
     ensures back { IfErr result (λ refused. refused.value ≡ put) }
 {
-    let Ok(room) = room_for(alloc, lines, marks, put.len(), cut) else {
+    let Ok(mut room) = room_for(alloc, lines, marks, put.len(), cut) else {
         return Err(AllocFailed { value: put });
     };
-    let ExchangeRoom {
-        mut put_lines,
-        mut put_marks,
-        mut gone_lines,
-        mut gone_marks,
-        mut gone,
-    } = room;
-    take_apart(put, &mut put_lines, &mut put_marks);
-    exchange(lines, at, cut, &mut put_lines, &mut gone_lines);
-    exchange(marks, at, cut, &mut put_marks, &mut gone_marks);
-    put_together(gone_lines, gone_marks, &mut gone);
-    Ok(DeckLines::from(gone))
+    take_apart(put, &mut room.put_lines, &mut room.put_marks);
+    exchange(lines, at, cut, &mut room.put_lines, &mut room.gone_lines);
+    exchange(marks, at, cut, &mut room.put_marks, &mut room.gone_marks);
+    Ok(join_gone(room))
 }
 
 /// Empty vectors for an exchange.
@@ -134,6 +126,23 @@ fn take_apart(from: DeckLines, lines: &mut Vec<Line>, marks: &mut Vec<bool>)
     }
     lines.reverse();
     marks.reverse();
+}
+
+// Returns the replaced lines with their marks.
+fn join_gone(room: ExchangeRoom) -> DeckLines
+    requires each { length room.gone_marks.items ≡ length room.gone_lines.items }
+    requires place { length room.gone_lines.items ≤ vec_capacity room.gone }
+    requires empty { room.gone.items ≡ [] }
+    ensures { result ≡ store_lines_with_marks room.gone_lines.items room.gone_marks.items }
+{
+    let ExchangeRoom {
+        gone_lines,
+        gone_marks,
+        mut gone,
+        ..
+    } = room;
+    put_together(gone_lines, gone_marks, &mut gone);
+    DeckLines::from(gone)
 }
 
 // Joins lines and their marks in an empty vector with room for them.
