@@ -1,5 +1,5 @@
 -- The numbers of keys.
-use Rattle.std.specs.Prelude.{◌≡◌, ◌⊎◌, ℕ, Bool, false, Some, List, map, slice_get}
+use Rattle.std.specs.Prelude.{◌≡◌, ◌≤◌, ◌+◌, ◌⊎◌, ℕ, Bool, false, Some, List, map, slice_get, vec_capacity, vec_len}
 use Rattle.def_entry.specs.declared.key.Key.{Key}
 use Rattle.def_entry.specs.SameKeys.{is_entry_key_among}
 use Rattle.def_entry.specs.Tables.{EntryTable, keys_of_entries}
@@ -24,3 +24,13 @@ pub record IsNodeExtension (keys : List Key) (start now : Nodes) : Type 0 where
 pub record HasNodeNumber (k : Key) (flag : Bool) (n : ℕ) (l m : NodeLists) : Type 0 where
   pub number : slice_get m.keys n ≡ Some k
   pub names : (m ≡ l) ⊎ ((is_entry_key_among l.keys k ≡ false) × IsNameAddedToNodes k flag l m)
+
+-- there is room for the data of `more` further names
+pub record HasNodeRoom (more : ℕ) (nodes : Nodes) : Type 0 where
+  pub flag_room : vec_len nodes.present + more ≤ vec_capacity nodes.present
+  pub callee_room : vec_len nodes.callees + more ≤ vec_capacity nodes.callees
+  pub outcome_room : vec_len nodes.outcomes + more ≤ vec_capacity nodes.outcomes
+  pub step_room : vec_len nodes.steps + more ≤ vec_capacity nodes.steps
+  pub look_room : vec_len nodes.looks + more ≤ vec_capacity nodes.looks
+  pub settled_room : vec_len nodes.settled + more ≤ vec_capacity nodes.settled
+  pub place_room : vec_len nodes.places + more ≤ vec_capacity nodes.places

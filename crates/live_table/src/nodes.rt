@@ -1,10 +1,12 @@
 //! The names of a live table, by number.
 
-ghost use Rattle.std.specs.Prelude.{◌≡◌, ◌<◌, IfOk, OnErr, length, slice_set};
+ghost use Rattle.std.specs.Prelude.{◌≡◌, ◌<◌, ◌++◌, ◌∷◌, [], List, IfOk, OnErr, OnOk, length, slice_set};
 ghost use Rattle.std.specs.Option.{is_some};
+ghost use Rattle.def_entry.specs.declared.key.Key.{Key};
 ghost use Rattle.def_entry.specs.Keys.{key};
 ghost use Rattle.def_entry.specs.SameKeys.{is_entry_key_among};
-ghost use Rattle.live_table.specs.KeyNumbers.{HasNodeNumber};
+ghost use Rattle.live_table.specs.Exploration.{IsNameAddedToNodes};
+ghost use Rattle.live_table.specs.KeyNumbers.{HasNodeNumber, HasNodeRoom};
 ghost use Rattle.live_table.specs.TableContents.{no_nodes, node_lists};
 
 use crate::callee::{Callee, PartStarts};
@@ -88,26 +90,44 @@ impl Nodes {
         ensures err { OnErr result (node_lists self.new ≡ node_lists self.old) }
         ensures gathered { self.new.gathered ≡ self.old.gathered }
     {
-        self.present.reserve(1)?;
-        self.callees.reserve(1)?;
-        self.outcomes.reserve(1)?;
-        self.steps.reserve(1)?;
-        self.looks.reserve(1)?;
-        self.settled.reserve(1)?;
-        self.places.reserve(1)?;
+        self.reserve_rows(1)?;
         let added = self.keys.add(alloc, kind, name)?;
-        if !added.is_new {
-            return Ok(added.number);
+        if added.is_new {
+            self.push_row(alloc, table.find(kind, name));
         }
-        let place = table.find(kind, name);
-        self.present.push(place.is_some())?;
-        self.callees.push(no_callee())?;
-        self.outcomes.push(None)?;
-        self.steps.push(StepList::new(alloc))?;
-        self.looks.push(Vec::new(alloc))?;
-        self.settled.push(false)?;
-        self.places.push(short(place))?;
         Ok(added.number)
+    }
+
+    // Makes room for the data of `more` further names.
+    fn reserve_rows(&mut self, more: usize) -> Result<(), AllocError>
+        ensures listed { node_lists self.new ≡ node_lists self.old }
+        ensures gathered { self.new.gathered ≡ self.old.gathered }
+        ensures room { OnOk result (HasNodeRoom more self.new) }
+    {
+        self.present.reserve(more)?;
+        self.callees.reserve(more)?;
+        self.outcomes.reserve(more)?;
+        self.steps.reserve(more)?;
+        self.looks.reserve(more)?;
+        self.settled.reserve(more)?;
+        self.places.reserve(more)
+    }
+
+    // Appends the data of a name whose key is the last one, given the place of the key in the deck. No push fails, since
+    // there is room.
+    fn push_row(&mut self, alloc: Global, place: Option<usize>)
+        requires room { HasNodeRoom 1 self.old }
+        ensures row { (k : Key) (keys : List Key) → self.old.keys ≡ keys ++ k ∷ []
+            → IsNameAddedToNodes k (is_some place) (record (node_lists self.old) { keys = keys }) (node_lists self.new) }
+        ensures gathered { self.new.gathered ≡ self.old.gathered }
+    {
+        self.present.push(place.is_some()).unwrap();
+        self.callees.push(no_callee()).unwrap();
+        self.outcomes.push(None).unwrap();
+        self.steps.push(StepList::new(alloc)).unwrap();
+        self.looks.push(Vec::new(alloc)).unwrap();
+        self.settled.push(false).unwrap();
+        self.places.push(short(place)).unwrap();
     }
 
     /// Updates the place of the key of a name in the deck, and so whether it has an entry.
@@ -129,13 +149,7 @@ impl Nodes {
     {
         let more = count.saturating_sub(self.keys.len());
         self.keys.reserve(more)?;
-        self.present.reserve(more)?;
-        self.callees.reserve(more)?;
-        self.outcomes.reserve(more)?;
-        self.steps.reserve(more)?;
-        self.looks.reserve(more)?;
-        self.settled.reserve(more)?;
-        self.places.reserve(more)
+        self.reserve_rows(more)
     }
 
     /// Returns the place in the deck near which the entry of a name was when it was last found.
