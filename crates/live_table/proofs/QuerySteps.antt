@@ -3,7 +3,6 @@ use Rattle.std.proofs.Common.{◌≡◌, ◌+◌, ◌++◌, ◌∷◌, [], ℕ, 
 use Rattle.std.proofs.Common.{None, sym, ◌∙◌, ap, subst, Contains}
 use Rattle.std.specs.List.{slice_get}
 use Rattle.std.proofs.lemmas.Bool.{true≢false}
-use Rattle.std.proofs.lemmas.List.{append_assoc}
 use Rattle.expr_tree.specs.declared.word_list.WordUse.{WordUse}
 use Rattle.def_entry.specs.Tables.{EntryTable}
 use Rattle.name_walk.specs.declared.step.Step.{Step}
@@ -57,19 +56,15 @@ module _ (t : EntryTable) (old now m : NodeLists) (before here list there : List
     pub stepping_next : ((n : ℕ) → Contains (destination_node_numbers destination) n
         → IsKnownToExploration m before there n)
         → (w : WordSteps)
-        → Some w ≡ node_steps_of_destination destination → (ys zs : List Step) → ys ≡ xs ++ w.first ∷ []
-        → zs ≡ ys ++ w.second ∷ []
+        → Some w ≡ node_steps_of_destination destination → (zs : List Step) → zs ≡ xs ++ w.first ∷ w.second ∷ []
         → IsStepping t old m before here there us zs (i + 1)
-    stepping_next known w e ys zs a b = record {
+    stepping_next known w e zs all = record {
       added = stepped_added;
       written = subst (λ (p : List WordUse × List Step). AreExplorationSteps t m before there [] p.0 p.1)
           (λ j. (sym (take_at us i u turn.word) j, sym all j))
           (exploration_steps_after_others t m before there [] (take i us) (u ∷ []) xs (w.first ∷ w.second ∷ []) front
           (steps_written t m before there [] u destination w is known e));
     }
-      where
-        all : zs ≡ xs ++ w.first ∷ w.second ∷ []
-        all = b ∙ (ap (λ (qs : List Step). qs ++ w.second ∷ []) a ∙ append_assoc xs (w.first ∷ []) (w.second ∷ []))
 
     -- or the word leads nowhere
     pub stepping_cut : None ≡ node_steps_of_destination destination → (end : DeadEnd)

@@ -1,21 +1,22 @@
 //! The words of a query.
 
-ghost use Rattle.std.specs.Prelude.{List, IfOk};
+ghost use Rattle.std.specs.Prelude.{◌≡◌, List, Some, IfOk};
 ghost use Rattle.deck.specs.Tables.{table_of_deck};
 ghost use Rattle.live_table.specs.declared.dead_end.DeadEnd.{DeadEnd};
 ghost use Rattle.live_table.specs.Exploration.{AreNodesAdded, IsExplorationAgenda};
 ghost use Rattle.live_table.specs.QueryWords.{AreExploredQuerySteps};
 ghost use Rattle.live_table.specs.Sound.{AreSoundNodes};
+ghost use Rattle.live_table.specs.WordTargets.{is_refused_node_destination};
 ghost use Rattle.live_table.specs.TableContents.{node_lists};
 
 use crate::dead_end::DeadEnd;
 use crate::nodes::Nodes;
 use crate::tried_keys::TriedKeys;
-use crate::word_steps::target_steps;
-use crate::word_targets::query_destination;
+use crate::word_steps::{push_steps, target_steps};
+use crate::word_targets::{Destination, query_destination};
 use crate::worklist::Worklist;
 use deck::Deck;
-use expr_tree::Words;
+use expr_tree::{WordUse, Words};
 use name_walk::StepList;
 use std::alloc::{AllocError, Global};
 
@@ -51,11 +52,26 @@ pub(crate) fn query_steps(
     for u in words.as_slice() {
         let destination = query_destination(alloc, deck, nodes, tried, u)?;
         let Some(word) = target_steps(nodes, explored, worklist, destination)? else {
-            let end = Some(DeadEnd::new(alloc, u, destination)?);
-            return Ok(QuerySteps { steps, end });
+            return cut_before(alloc, steps, u, destination);
         };
-        steps.push(word.first)?;
-        steps.push(word.second)?;
+        push_steps(&mut steps, word)?;
     }
     Ok(QuerySteps { steps, end: None })
+}
+
+// Returns the steps of a query that is cut before a word that leads nowhere. The only error is lack of memory.
+fn cut_before(
+    alloc: Global,
+    steps: StepList,
+    u: &WordUse<'_>,
+    destination: Destination,
+) -> Result<QuerySteps, AllocError>
+    ensures { IfOk result (λ query. query ≡ record {
+      steps = steps;
+      end = Some (record
+          { text = u.now.text; is_refused = is_refused_node_destination destination });
+    }) }
+{
+    let end = Some(DeadEnd::new(alloc, u, destination)?);
+    Ok(QuerySteps { steps, end })
 }

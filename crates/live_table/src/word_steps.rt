@@ -1,6 +1,6 @@
 //! Computes the steps of words.
 
-ghost use Rattle.std.specs.Prelude.{◌≡◌, ◌<◌, ◌++◌, ◌∷◌, [], ℕ, List, true, IfOk, length, Contains};
+ghost use Rattle.std.specs.Prelude.{◌≡◌, ◌<◌, ◌++◌, ◌∷◌, [], ℕ, List, true, IfOk, OnOk, length, Contains};
 ghost use Rattle.def_entry.specs.Tables.{EntryTable, is_entry_present};
 ghost use Rattle.deck.specs.Tables.{table_of_deck};
 ghost use Rattle.live_table.specs.declared.dead_end.DeadEnd as dead_end_spec;
@@ -77,9 +77,15 @@ fn put_word(
         worklist.new dead_ends.new.items nodes.old.gathered nodes.new.gathered u.now steps.old steps.new) }
 {
     let word = word_steps(alloc, deck, nodes, explored, worklist, dead_ends, tried, u)?;
+    push_steps(steps, word)
+}
+
+/// Appends the two steps of a word. The only error is lack of memory.
+pub(crate) fn push_steps(steps: &mut StepList, word: WordSteps) -> Result<(), AllocError>
+    ensures { OnOk result (steps.new ≡ steps.old ++ word.first ∷ word.second ∷ []) }
+{
     steps.push(word.first)?;
-    steps.push(word.second)?;
-    Ok(())
+    steps.push(word.second)
 }
 
 /// The two steps of a word.

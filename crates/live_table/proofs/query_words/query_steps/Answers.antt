@@ -1,10 +1,13 @@
-use Rattle.std.proofs.Common.{[], List, Some, sym, ◌∙◌, ap, arith}
+use Rattle.std.proofs.Common.{◌≡◌, [], List, Some, Result, Ok, Err, IfOk, refl, sym, ◌∙◌, ap, subst, arith}
 use Rattle.std.specs.List.{slice_get}
 use Rattle.std.proofs.lemmas.Option.{slice_get-get_or}
 use Rattle.expr_tree.specs.declared.word_list.WordUse.{WordUse}
 use Rattle.deck.specs.Tables.{table_of_deck}
 use Rattle.live_table.specs.declared.dead_end.DeadEnd.{DeadEnd}
+use Rattle.live_table.specs.declared.query_words.QuerySteps.{QuerySteps}
 use Rattle.live_table.specs.Exploration.{AreNodesAdded}
+use Rattle.live_table.specs.QueryWords.{AreExploredQuerySteps}
+use Rattle.live_table.specs.WordTargets.{is_refused_node_destination}
 use Rattle.live_table.specs.TableContents.{node_lists}
 use Rattle.live_table.proofs.AddedNames.{two_node_additions_are_one}
 use Rattle.live_table.proofs.DestinationSteps.{destination_present, destination_within}
@@ -84,27 +87,34 @@ added c ends =
 pub returns-in_err-word-clause-added : goal.returns-in_err-word-clause-added
 returns-in_err-word-clause-added c = added (goal.at.returns-in_err-word-clause-added c).After-target_steps
 
-pub returns-in_err-new-clause-added : goal.returns-in_err-new-clause-added
-returns-in_err-new-clause-added c = added (goal.at.returns-in_err-new-clause-added c).After-target_steps
-
 pub returns-in_default-clause-added : goal.returns-in_default-clause-added
 returns-in_default-clause-added c = added (goal.at.returns-in_default-clause-added c).After-target_steps
 
-pub returns-in_err-push-clause-added : goal.returns-in_err-push-clause-added
-returns-in_err-push-clause-added c = added (goal.at.returns-in_err-push-clause-added c).After-target_steps
+pub returns-in_err-push_steps-clause-added : goal.returns-in_err-push_steps-clause-added
+returns-in_err-push_steps-clause-added c = added (goal.at.returns-in_err-push_steps-clause-added c).After-target_steps
 
-pub returns-in_err-push-2-clause-added : goal.returns-in_err-push-2-clause-added
-returns-in_err-push-2-clause-added c = added (goal.at.returns-in_err-push-2-clause-added c).After-target_steps
+-- a property of the only result that there can be
+of_result : {A E : Type 0} (P : A → Type 0) (r : Result A E) (x : A) → IfOk r (λ y. y ≡ x) → P x → IfOk r P
+of_result P (Ok y) x is holds = subst P (sym is) holds
+of_result P (Err e) x is holds = is
 
 pub returns-in_default-clause-steps : goal.returns-in_default-clause-steps
 returns-in_default-clause-steps c =
-    stepping_cut (table_of_deck c.args.deck.now) (node_lists c.args.nodes.now) (node_lists c.loop-u.nodes)
+    let end : DeadEnd = record {
+      text = c.u-item.result.text;
+      is_refused = is_refused_node_destination c.in_ok-destination.destination;
+    } in
+    of_result (λ (query : QuerySteps). AreExploredQuerySteps (table_of_deck c.args.deck.now)
+    (node_lists c.query_destination.new.nodes) c.args.explored.now c.target_steps.new.worklist c.args.words.now
+    query.steps query.end) c.cut_before.result (record { steps = c.loop-u.steps; end = Some end })
+    c.cut_before.ensures
+    (stepping_cut (table_of_deck c.args.deck.now) (node_lists c.args.nodes.now) (node_lists c.loop-u.nodes)
     (node_lists c.query_destination.new.nodes) c.args.explored.now c.args.worklist.now c.loop-u.worklist
     c.target_steps.new.worklist
     c.args.words.now c.loop-u.steps c.loop-u.u-index c.u-item.result
     (turn (goal.at.returns-in_default-clause-steps c).After-target_steps) c.in_ok-destination.destination
     c.in_ok-destination.ensures.destination
-    (sym c.in_default.is ∙ c.in_ok-word.ensures.steps) c.in_ok-new.field-0 c.in_ok-new.ensures
+    (sym c.in_default.is ∙ c.in_ok-word.ensures.steps) end refl)
 
 pub loop-u-preserved : goal.loop-u-preserved
 loop-u-preserved c =
@@ -114,5 +124,5 @@ loop-u-preserved c =
     c.args.words.now c.loop-u.steps c.loop-u.u-index c.u-item.result
     (turn (goal.at.loop-u-preserved c).After-target_steps) c.in_ok-destination.destination
     c.in_ok-destination.ensures.destination
-    c.in_ok-word.ensures.known c.in-Some.word (sym c.in-Some.is ∙ c.in_ok-word.ensures.steps) c.push.new.self
-    c.push-in-loop-u.new.self c.in_ok-push.ensures.ok c.in_ok-push-2.ensures.ok
+    c.in_ok-word.ensures.known c.in-Some.word (sym c.in-Some.is ∙ c.in_ok-word.ensures.steps) c.push_steps.new.steps
+    c.in_ok-push_steps.ensures
