@@ -76,6 +76,23 @@ module _ {A : Type 0} (t : EntryTable) (l : NodeLists) (ends : List DeadEnd) (fs
         answer_holds = whole a.result_named.0 (subst Part a.result_named.2 a.answer_holds);
       })
 
+  -- a query is cut before a word that leads nowhere, or memory ran out
+  pub cut_or_no_memory : (old : List DeadEnd) → ends ≡ old → (query : List Step) (end : DeadEnd) (stop : Stop)
+      → (stop ≡ OutOfMemory) ⊎ IsCutLiveStop t l old fs query end stop → Holds (Err fault.OutOfMemory)
+      → ((name : NameFault) → explored_fault_before (live_query_fault t l old query) end ≡ Some name
+      → Holds (Err (fault.Name name)))
+      → HoldsOfNamedLiveResult t l ends fs (Err stop) Holds
+  cut_or_no_memory old same query end stop (inl e) memory named = no_memory (Err stop) (ap Err e) memory
+  cut_or_no_memory old same query end stop (inr cut) memory named = record {
+    named_answer = Err (fault.Name cut.name);
+    result_named = (
+      fault.Name cut.name,
+      subst (λ (es : List DeadEnd). IsLiveStopFault t l es fs stop (fault.Name cut.name)) (sym same) cut.stop_named,
+      refl,
+    );
+    answer_holds = named cut.name cut.fault_first;
+  }
+
 -- ---- the fault of a step
 module _ (t : EntryTable) (l : NodeLists) (ends : List DeadEnd) (fs : Faults) (query : List Step) (x : Step)
     (of : IsWalkQueryFault l.graph query x) (known : IsFaultyWalkStep fs x) where

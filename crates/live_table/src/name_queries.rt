@@ -1,6 +1,6 @@
 //! Queries of names.
 
-ghost use Rattle.std.specs.Prelude.{◌≡◌, true, IfOk, OnOk};
+ghost use Rattle.std.specs.Prelude.{◌≡◌, ◌⊎◌, true, OnOk};
 ghost use Rattle.def_entry.specs.Keys as key_spec;
 ghost use Rattle.def_entry.specs.Tables.{is_entry_present};
 ghost use Rattle.deck.specs.Tables.{table_of_deck};
@@ -15,6 +15,7 @@ ghost use Rattle.live_table.specs.Sound.{AreSoundNodes};
 ghost use Rattle.live_table.specs.States.{AsksWords};
 ghost use Rattle.live_table.specs.TableContents.{live_view_of_nodes, node_lists};
 ghost use Rattle.live_table.specs.Stops.{HoldsOfNamedLiveResult, IsCutLiveStop};
+ghost use Rattle.live_table.specs.declared.stop.Stop.TheVariants.{OutOfMemory};
 ghost use Rattle.live_table.specs.EvalInvariants.{AreSettledWords};
 
 use crate::dead_end::DeadEnd;
@@ -33,7 +34,7 @@ use deck::Deck;
 use def_entry::{Kind, What};
 use expr_tree::Words;
 use name_walk::{Step, StepList, findings_law};
-use std::alloc::{AllocError, Global};
+use std::alloc::Global;
 use std::sync::ledger::Ledger;
 use table_names::{numbered_fault_law, settling_law};
 use units_io::Steps;
@@ -88,7 +89,7 @@ pub(crate) fn ask_words<L: Ledger>(
     let QuerySteps { steps: list, end } = query;
     let targets = list.as_slice();
     if let Some(end) = end {
-        let stop = cut_stop(
+        return Err(cut_stop(
             alloc,
             deck,
             nodes,
@@ -96,8 +97,7 @@ pub(crate) fn ask_words<L: Ledger>(
             &scratch.worklist,
             targets,
             end,
-        )?;
-        return Err(stop);
+        ));
     }
     settle_query(
         alloc, deck, nodes, edges, explored, scratch, reductions, targets, &found, steps,
@@ -209,7 +209,7 @@ fn settle_query<'a, L: Ledger>(
 }
 
 // Returns the stop of a query that is cut before a word that leads nowhere: the first of the preceding steps that has a
-// fault, or else that word.
+// fault, or else that word. If memory runs out, the stop says so.
 fn cut_stop(
     alloc: Global,
     deck: &Deck,
@@ -218,7 +218,7 @@ fn cut_stop(
     worklist: &Worklist,
     query: &[Step],
     end: DeadEnd,
-) -> Result<Stop, AllocError>
+) -> Stop
     requires all { AreAllExplored (table_of_deck deck.now) (node_lists nodes.now) explored.old.names worklist.now
         explored.old.dead_ends.items }
     requires nodes { AreSoundNodes (table_of_deck deck.now) (node_lists nodes.now) }
@@ -229,12 +229,12 @@ fn cut_stop(
         explored.new.dead_ends.items }
     ensures faults { AreExploredFaultsKnown (node_lists nodes.now) explored.new.names explored.new.findings }
     ensures dead_ends { explored.new.dead_ends.items ≡ explored.old.dead_ends.items }
-    ensures stop { IfOk result
-        (λ stop. IsCutLiveStop (table_of_deck deck.now) (node_lists nodes.now) explored.old.dead_ends.items
-        explored.new.findings.faults query.now end stop) }
+    ensures stop { (result ≡ OutOfMemory) ⊎ IsCutLiveStop (table_of_deck deck.now) (node_lists nodes.now)
+        explored.old.dead_ends.items explored.new.findings.faults query.now end result }
 {
-    match find_faulty(alloc, deck, nodes, explored, worklist, query)? {
-        Some(step) => Ok(Stop::Below(step)),
-        None => Ok(Stop::At(end)),
+    match find_faulty(alloc, deck, nodes, explored, worklist, query) {
+        Ok(Some(step)) => Stop::Below(step),
+        Ok(None) => Stop::At(end),
+        Err(_) => Stop::OutOfMemory,
     }
 }

@@ -6,7 +6,6 @@ use Rattle.deck.specs.Tables.{table_of_deck}
 use Rattle.table_names.specs.Faults.{name_fault}
 use Rattle.table_names.specs.Reach.{reach}
 use Rattle.table_names.specs.NumberedNames.{LeadToKnownNumbers}
-use Rattle.live_table.specs.declared.dead_end.DeadEnd.{DeadEnd}
 use Rattle.live_table.specs.declared.fault.QueryFault.{QueryFault}
 use Rattle.live_table.specs.declared.fault.QueryFault.TheVariants as fault
 use Rattle.live_table.specs.QueryEffects.{AreUnsettledNamesClosed, IsLiveQueryAnswered, live_query_fault}
@@ -15,7 +14,6 @@ use Rattle.live_table.specs.Exploration.{AreExplorationSteps, AreNodesGrown, Wer
 use Rattle.live_table.specs.KnownFaults.{AreExploredFaultsKnown}
 use Rattle.live_table.specs.QueryWords.{AreExplorationStepsCutAt, AreExploredQuerySteps, explored_fault_before}
 use Rattle.live_table.specs.States.{AsksWords}
-use Rattle.live_table.specs.Stops.{IsLiveStopFault}
 use Rattle.live_table.specs.TableContents.{live_view_of_nodes, node_lists}
 use Rattle.live_table.specs.EvalInvariants.{AreSettledWords}
 use Rattle.live_table.proofs.AskedFor.{all_known, explored_cut, explored_fault, explored_settled}
@@ -24,7 +22,7 @@ use Rattle.live_table.proofs.GrownLive.{grown_live, live_query_cut_before_walk, 
 use Rattle.live_table.proofs.KnownFaults.{added_nodes_keep_steps, explored_faults_after_growth}
 use Rattle.live_table.proofs.Stages.{AreAllStages, AreStages, Stages, cut_there, live_there, stages_of}
 use Rattle.live_table.proofs.StillExplored.{added_explored}
-use Rattle.live_table.proofs.StopAnswers.{answers_ok, no_memory, passed_on}
+use Rattle.live_table.proofs.StopAnswers.{answers_ok, cut_or_no_memory, no_memory, passed_on}
 use Rattle.live_table.proofs.name_queries.ask_words.Goals as goal
 use Rattle.live_table.proofs.name_queries.ask_words.Goals.{After-explore, After-query_steps, In-Some, In_default}
 use Rattle.live_table.proofs.name_queries.ask_words.Goals.{In_ok-found}
@@ -210,21 +208,6 @@ cut_stop-requires-clause-faults g c =
     let at = goal.at.cut_stop-requires-clause-faults g c in
     known_there g at.After-explore (known_led g at.After-query_steps)
 
-pub returns-in_err-stop-clause-live : goal.returns-in_err-stop-clause-live
-returns-in_err-stop-clause-live g c = live g (goal.at.returns-in_err-stop-clause-live g c).After-explore
-
-pub returns-in_err-stop-clause-asked : goal.returns-in_err-stop-clause-asked
-returns-in_err-stop-clause-asked g c =
-    let t = table_of_deck c.args.deck.now in
-    let now = (goal.at.returns-in_err-stop-clause-asked g c).After-explore in
-    let p = err_from_is_err_and c.from_residual-in_err-stop.result c.from_residual-in_err-stop.ensures.1 in
-    no_memory t (node_lists c.explore.new.nodes) c.cut_stop.new.explored.dead_ends.items
-    c.cut_stop.new.explored.findings.faults _ c.from_residual-in_err-stop.result (p.1 ∙ ap Err p.2)
-    (cut_there (stages g now) (are_stages g now)
-    (λ (query : List Step). AreSettledWords t (node_lists c.explore.new.nodes) c.args.words.now query)
-    (AsksWords c.args.words.now) (name_fault t c.args.words.now) (reach t c.args.words.now) c.args.steps.now
-    (live_query_of_words t c.args.words.now) (Err fault.OutOfMemory) refl)
-
 pub returns-in-Some-clause-live : goal.returns-in-Some-clause-live
 returns-in-Some-clause-live g c = live g (goal.at.returns-in-Some-clause-live g c).After-explore
 
@@ -232,24 +215,21 @@ pub returns-in-Some-clause-asked : goal.returns-in-Some-clause-asked
 returns-in-Some-clause-asked g c =
     let t = table_of_deck c.args.deck.now in
     let at = goal.at.returns-in-Some-clause-asked g c in
-    let stopped = c.in_ok-stop.ensures.stop in
-    record {
-      named_answer = Err (fault.Name stopped.name);
-      result_named = (
-        fault.Name stopped.name,
-        subst (λ (ends : List DeadEnd). IsLiveStopFault t (node_lists c.explore.new.nodes) ends
-            c.cut_stop.new.explored.findings.faults c.in_ok-stop.stop (fault.Name stopped.name))
-            (sym c.cut_stop.ensures.dead_ends) stopped.stop_named,
-        refl,
-      );
-      answer_holds = explored_cut (λ (query : List Step). AreSettledWords t (node_lists c.explore.new.nodes)
-          c.args.words.now
-          query) (all_stages g at.In_ok-found) (are_all g at.In_ok-found) c.args.words.now
-          c.in_ok-query.query.steps c.in-Some.end c.args.steps.now (cut g at.In-Some) stopped.name
-          (subst (λ (ys : List Step). explored_fault_before (live_query_fault t (node_lists c.explore.new.nodes)
-          c.explore.new.dead_ends.items ys) c.in-Some.end ≡ Some stopped.name)
-          c.as_slice-targets.ensures stopped.fault_first);
-    }
+    let now = at.After-explore in
+    cut_or_no_memory t (node_lists c.explore.new.nodes) c.cut_stop.new.explored.dead_ends.items
+    c.cut_stop.new.explored.findings.faults _ c.explore.new.dead_ends.items c.cut_stop.ensures.dead_ends
+    c.as_slice-targets.result.now c.in-Some.end c.cut_stop.result c.cut_stop.ensures.stop
+    (cut_there (stages g now) (are_stages g now)
+    (λ (query : List Step). AreSettledWords t (node_lists c.explore.new.nodes) c.args.words.now query)
+    (AsksWords c.args.words.now) (name_fault t c.args.words.now) (reach t c.args.words.now) c.args.steps.now
+    (live_query_of_words t c.args.words.now) (Err fault.OutOfMemory) refl)
+    (λ name first. explored_cut (λ (query : List Step). AreSettledWords t (node_lists c.explore.new.nodes)
+    c.args.words.now
+    query) (all_stages g at.In_ok-found) (are_all g at.In_ok-found) c.args.words.now
+    c.in_ok-query.query.steps c.in-Some.end c.args.steps.now (cut g at.In-Some) name
+    (subst (λ (ys : List Step). explored_fault_before (live_query_fault t (node_lists c.explore.new.nodes)
+    c.explore.new.dead_ends.items ys) c.in-Some.end ≡ Some name)
+    c.as_slice-targets.ensures first))
 
 -- ---- all words lead somewhere
 written : (g : _) (c : In_default g)
