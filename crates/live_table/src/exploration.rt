@@ -1,15 +1,17 @@
 //! Assigns numbers and steps to all names below a query.
 
-ghost use Rattle.std.specs.Prelude.{◌≡◌, IfOk, Contains};
+ghost use Rattle.std.specs.Prelude.{◌≡◌, ◌<◌, ℕ, IfOk, Contains, length};
 ghost use Rattle.def_entry.specs.Views.{entry_definition_view};
 ghost use Rattle.deck.specs.Tables.{table_of_deck};
 ghost use Rattle.live_table.specs.Exploration.{AreAllExplored, AreNodesGrown, AreOtherNodesSame};
 ghost use Rattle.live_table.specs.Exploration.{HasOwnExplorationSteps, IsExplorationAgenda, WereExplored};
+ghost use Rattle.live_table.specs.Exploration.{nodes_with_steps};
 ghost use Rattle.live_table.specs.KnownFaults.{HaveSameNodeSteps};
 ghost use Rattle.live_table.specs.FoundDefinitions.{AreNodeDefinitionsFound, HasLiveEntry};
 ghost use Rattle.live_table.specs.Sound.{AreSoundNodes};
 ghost use Rattle.live_table.specs.TableContents.{node_key_at, node_lists};
 
+use crate::callee::PartStarts;
 use crate::dead_end::DeadEnd;
 use crate::entry_words::write_entry_words;
 use crate::nodes::Nodes;
@@ -20,6 +22,7 @@ use crate::worklist::Worklist;
 use deck::Deck;
 use def_entry::{Kind, What};
 use expr_tree::Words;
+use name_walk::StepList;
 use std::alloc::{AllocError, Global};
 
 // Few queries process so many names.
@@ -96,10 +99,21 @@ fn explore_name<'a>(
         alloc, deck, nodes, explored, worklist, dead_ends, tried, words,
     )?;
     let looks = nodes.gathered.to_vec(alloc)?;
+    store_steps(nodes, n, starts, steps, looks);
+    Ok(())
+}
+
+// Stores the starts of the trees of a name, the steps of its words, and its looks.
+fn store_steps(nodes: &mut Nodes, n: usize, starts: PartStarts, steps: StepList, looks: Vec<usize>)
+    requires callee_there { n < length (node_lists nodes.old).callees }
+    requires steps_there { n < length (node_lists nodes.old).graph }
+    requires looks_there { n < length (node_lists nodes.old).looks }
+    ensures { (rank : ℕ) × (node_lists nodes.new
+        ≡ nodes_with_steps n (record { rank = rank; starts = starts }) steps looks (node_lists nodes.old)) }
+{
     nodes.callees[n].starts = starts;
     nodes.steps[n] = steps;
     nodes.looks[n] = looks;
-    Ok(())
 }
 
 // Makes room for all names of the deck at once after a query has processed many names, since it may well process all of
