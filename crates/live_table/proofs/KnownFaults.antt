@@ -1,8 +1,6 @@
 -- The facts known about faults stay right until an edit.
-use Rattle.std.proofs.Common.{◌≡◌, ◌⊎◌, ◌↔◌, ◌≤◌, ◌<◌, ℕ, Bool, true, List, [], length, set, Some, refl, sym, ◌∙◌, ap}
-use Rattle.std.proofs.Common.{subst, inl, inr, arith, Contains}
-use Rattle.std.specs.Prelude.{Result, Ok, Err, IfOk, Option, None}
-use Rattle.std.specs.declared.alloc.AllocError.{AllocError}
+use Rattle.std.proofs.Common.{◌≡◌, ◌⊎◌, ◌↔◌, ◌≤◌, ◌<◌, ℕ, Bool, true, false, List, [], length, set, Some, refl, sym, ◌∙◌, ap}
+use Rattle.std.proofs.Common.{Option, None, is_some, subst, inl, inr, arith, true≢false, Contains}
 use Rattle.std.specs.List.{slice_get}
 use Rattle.std.proofs.lemmas.Bool.{cases_eq}
 use Rattle.std.proofs.lemmas.Option.{slice_get_within}
@@ -11,11 +9,10 @@ use Rattle.name_walk.specs.declared.step.Step.{Step}
 use Rattle.name_walk.specs.ClosedNames.{IsSettledInGraph}
 use Rattle.name_walk.specs.declared.fault.Fault.{Fault}
 use Rattle.name_walk.specs.Faults.{steps_fault_after_path}
-use Rattle.name_walk.specs.Findings.{AreNoWalkFindings, AreWalkedFromQuery, IsFirstFaultyWalkStep, WalkFindings}
+use Rattle.name_walk.specs.Findings.{AreNoWalkFindings, AreWalkedFromQuery, WalkFindings}
 use Rattle.name_walk.specs.FindingsLaws.{WalkFindingsLaw}
 use Rattle.name_walk.specs.NewlyClosed.{IsReachedInGraph}
 use Rattle.name_walk.specs.Steps.{Graph, GraphLeadsTo, GraphReaches, at_once, further, graph_steps}
-use Rattle.name_walk.specs.Trails.{Faults}
 use Rattle.name_walk.specs.Walks.{IsWalked, walk_fault_view}
 use Rattle.tree_eval.specs.declared.outcome.Outcome.{Outcome}
 use Rattle.table_names.specs.NumberedNames.{LeadToKnownNumbers}
@@ -26,7 +23,6 @@ use Rattle.live_table.specs.Due.{nodes_with_settled_outcome}
 use Rattle.live_table.specs.Exploration.{AreAllExplored, AreNodesAdded, AreNodesGrown, IsKnownToExploration}
 use Rattle.live_table.specs.Exploration.{WereExplored, is_known_to_exploration}
 use Rattle.live_table.specs.KnownFaults.{AreExploredFaultsKnown, AreMoreNamesSettled, HaveSameNodeSteps}
-use Rattle.live_table.specs.KnownFaults.{IsFirstExploredFault}
 use Rattle.live_table.specs.Ranks.{node_callee_with_rank}
 use Rattle.live_table.specs.Sound.{AreSoundNodes}
 use Rattle.live_table.specs.TableContents.{NodeLists}
@@ -107,16 +103,21 @@ settled_name_is_one_more_settled l later n o rank h put =
 
 -- ---- a search and a walk agree
 -- a walk without a fault
-pub faultless_walk_closes_unsettled : (l : NodeLists) (query : List Step) (order : List ℕ)
-    → IsWalked l.graph l.settled_flags query order None
+pub faultless_walk_closes_unsettled : (l : NodeLists) (query : List Step) (order : List ℕ) (r : Option Fault)
+    → is_some r ≡ false → IsWalked l.graph l.settled_flags query order r
     → AreUnsettledNamesClosed l query order
-faultless_walk_closes_unsettled l query order walked = record { query_has_no_fault = walked.0; closes = walked.1 }
+faultless_walk_closes_unsettled l query order None none walked = record {
+  query_has_no_fault = walked.0;
+  closes = walked.1;
+}
+faultless_walk_closes_unsettled l query order (Some f) none walked = absurd (true≢false none)
 
 -- a walk after a search that found no fault
 walk_after_search_closes_unsettled : (l : NodeLists) (query : List Step) (order : List ℕ) (r : Option Fault)
     → steps_fault_after_path l.graph [] query ≡ None → IsWalked l.graph l.settled_flags query order r
     → AreUnsettledNamesClosed l query order
-walk_after_search_closes_unsettled l query order None none walked = faultless_walk_closes_unsettled l query order walked
+walk_after_search_closes_unsettled l query order None none walked =
+    faultless_walk_closes_unsettled l query order None refl walked
 walk_after_search_closes_unsettled l query order (Some f) none walked = let e : None ≡ Some (walk_fault_view f) =
     sym none ∙ walked in cc
 
@@ -126,15 +127,6 @@ pub equal_walk_closes_unsettled : (l : NodeLists) (query : List Step) (order : L
 equal_walk_closes_unsettled l query order r none g s same_graph same_settled walked =
     walk_after_search_closes_unsettled l query order r none
     (subst (λ (p : Graph × List Bool). IsWalked p.0 p.1 query order r) (λ i. (same_graph i, same_settled i)) walked)
-
--- a search after a walk that found a fault
-pub explored_fault_is_walk_fault : (l : NodeLists) (query : List Step) (order : List ℕ) (fs : Faults)
-    (r : Result (Option Step) AllocError) (f : Fault) → IsWalked l.graph l.settled_flags query order (Some f)
-    → IfOk r (IsFirstFaultyWalkStep l.graph query fs) → IfOk r (IsFirstExploredFault l query order fs)
-explored_fault_is_walk_fault l query order fs (Ok None) f walked found =
-    let e : None ≡ Some (walk_fault_view f) = sym found ∙ walked in cc
-explored_fault_is_walk_fault l query order fs (Ok (Some x)) f walked found = found
-explored_fault_is_walk_fault l query order fs (Err e) f walked found = found
 
 -- ---- the names below a query were explored
 module _ (t : EntryTable) (l : NodeLists) (before list : List ℕ) (ends : List DeadEnd) (nodes : AreSoundNodes t l)

@@ -45,11 +45,8 @@ pub(crate) fn first_faulty(
         steps: &nodes.steps,
         settled: &nodes.settled,
     };
-    if explored.findings.is_empty() {
-        match walker.walk(alloc, &net, query)? {
-            None => return Ok(None),
-            Some(_) => return find_faulty(alloc, deck, nodes, explored, worklist, query),
-        }
+    if explored.findings.is_empty() && walker.walk(alloc, &net, query)?.is_none() {
+        return Ok(None);
     }
     if let Some(step) = find_faulty(alloc, deck, nodes, explored, worklist, query)? {
         return Ok(Some(step));
