@@ -262,9 +262,9 @@ module _ (deck : DeckContents) (l : NodeLists) (r n : ℕ) (sound : IsSoundLiveT
         (get_set_same l.settled_flags n true (slice_get_within l.settled_flags n false due.still_unsettled))
 
     -- the edges are still those of the other names
-    pub waiting_edges : (o : Outcome) (c : Callee) → HasLateSettledEdges deck (nodes_with_settled_outcome n o c l)
+    still_waiting_edges : (o : Outcome) (c : Callee) → HasLateSettledEdges deck (nodes_with_settled_outcome n o c l)
         (waiting ++ n ∷ []) g
-    waiting_edges o c = record {
+    still_waiting_edges o c = record {
       names = edges.names;
       edges_right = edges_grown (table_of_deck deck) (node_key_at l.keys) (node_key_at l.keys) g.names g.names
           (is_linked_settled_name l.settled_flags waiting)
@@ -273,6 +273,13 @@ module _ (deck : DeckContents) (l : NodeLists) (r n : ℕ) (sound : IsSoundLiveT
       targets_first = push_order (table_of_deck deck) (node_key_at l.keys) waiting n edges.targets_first out
           (λ m i. not_led m (edges.waiting_settled m i)) not_self;
     }
+
+    pub waiting_edges : (m : NodeLists)
+        → ((o : Outcome) × (c : Callee) × (m ≡ nodes_with_settled_outcome n o c l))
+        → (list : List ℕ) → list ≡ waiting ++ n ∷ [] → HasLateSettledEdges deck m list g
+    waiting_edges m settled list pushed =
+        subst (λ (p : NodeLists × List ℕ). HasLateSettledEdges deck p.0 p.1 g)
+        (λ i. (sym settled.2 i, sym pushed i)) (still_waiting_edges settled.0 settled.1)
 
 -- ---- at the start
 no_nodes_have_no_late_edges : (deck : DeckContents) → HasLateSettledEdges deck no_nodes []

@@ -1,7 +1,6 @@
-use Rattle.std.proofs.Common.{◌≡◌, ◌<◌, ℕ, List, length, arith, sym, subst}
+use Rattle.std.proofs.Common.{◌≡◌, ◌<◌, length, arith}
 use Rattle.deck.specs.Tables.{table_of_deck}
-use Rattle.live_table.specs.TableEdges.{HasLateSettledEdges}
-use Rattle.live_table.specs.TableContents.{NodeLists, node_lists}
+use Rattle.live_table.specs.TableContents.{node_lists}
 use Rattle.live_table.proofs.Flags.{unsettled_flag_leaves_room}
 use Rattle.live_table.proofs.OutcomesByKey.{settled_count}
 use Rattle.live_table.proofs.KnownFaults.{no_more_names_settled, settled_name_is_one_more_settled}
@@ -74,14 +73,14 @@ returns-clause-ok g c =
 
 pub returns-clause-edges : goal.returns-clause-edges
 returns-clause-edges g c =
-    let s = settled_nodes c.args.deck.now (node_lists c.args.nodes.now) c.args.reductions.now c.args.n c.requires.sound
+    waiting_edges c.args.deck.now (node_lists c.args.nodes.now) c.args.reductions.now c.args.n c.requires.sound
+    c.requires.due c.args.edges.now.waiting.items c.args.edges.now.made c.requires.edges
+    (node_lists c.store_outcome.new.nodes)
+    (settled_nodes c.args.deck.now (node_lists c.args.nodes.now) c.args.reductions.now c.args.n c.requires.sound
     c.requires.due c.in_ok-outcome.outcome c.rank_of-rank.result c.saturating_add.result
     (node_lists c.store_outcome.new.nodes)
-    (is_put g (goal.at.returns-clause-edges g c).After-saturating_add) in
-    subst (λ (p : NodeLists × List ℕ). HasLateSettledEdges c.args.deck.now p.0 p.1 c.args.edges.now.made)
-    (λ i. (sym s.2 i, sym c.in_ok-push_back.ensures.items i))
-    (waiting_edges c.args.deck.now (node_lists c.args.nodes.now) c.args.reductions.now c.args.n c.requires.sound
-    c.requires.due c.args.edges.now.waiting.items c.args.edges.now.made c.requires.edges s.0 s.1)
+    (is_put g (goal.at.returns-clause-edges g c).After-saturating_add))
+    _ c.in_ok-push_back.ensures.items
 
 pub returns-clause-explored : goal.returns-clause-explored
 returns-clause-explored g c =
