@@ -5,7 +5,6 @@ use Rattle.std.specs.List.{slice_get}
 use Rattle.std.proofs.lemmas.List.{drop-append-le, length-drop, map-append, take-append-le, take_all}
 use Rattle.std.proofs.Math.Seq.{drop-append_seam}
 use Rattle.def_entry.specs.Keys.{key}
-use Rattle.def_entry.specs.declared.key.Key.{Key}
 use Rattle.def_entry.specs.declared.key.Kind.{Kind}
 use Rattle.live_table.specs.declared.tried_keys.TriedKey.{TriedKey}
 use Rattle.live_table.specs.TriedKeys.{AreNodeKeyRangesWithin, node_key_of_range, node_keys_of_ranges}

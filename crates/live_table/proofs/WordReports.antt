@@ -1,5 +1,5 @@
 -- The reports on words of an environment.
-use Rattle.std.proofs.Common.{◌≡◌, ℕ, Bool, Option, Some, None, true, refl, sym, ◌∙◌, ap}
+use Rattle.std.proofs.Common.{◌≡◌, ℕ, Bool, Some, None, refl, sym, ◌∙◌, ap}
 use Rattle.std.specs.Prelude.{if◌then◌else◌}
 use Rattle.tree_eval.specs.declared.meaning.Meaning.{Meaning as ReportedMeaning}
 use Rattle.tree_eval.specs.declared.meaning.Meaning.TheVariants as reports

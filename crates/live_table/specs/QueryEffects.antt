@@ -1,6 +1,6 @@
 -- The effects of queries on a live table.
 use Rattle.std.specs.Prelude.{◌≡◌, ◌⊎◌, ◌+◌, ◌^◌, ◌-◌, ◌≤◌, ℕ, min, List, [], ◌∷◌, map, take, length, Option, Some}
-use Rattle.std.specs.Prelude.{None, MatchOption, Result, Ok, Err, option_map}
+use Rattle.std.specs.Prelude.{None, Result, Ok, Err, option_map}
 use Rattle.std.specs.declared.alloc.AllocError.{AllocError}
 use Rattle.def_entry.specs.declared.key.Key.{Key}
 use Rattle.deck.specs.Tables.{table_of_deck}

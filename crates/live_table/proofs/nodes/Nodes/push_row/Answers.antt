@@ -1,4 +1,4 @@
-use Rattle.std.proofs.Common.{◌≡◌, ◌++◌, ◌∷◌, [], List, Result, Ok, Bool, cond, is_ok, ap, refl, ◌∙◌}
+use Rattle.std.proofs.Common.{◌≡◌, ◌++◌, ◌∷◌, [], List, Result, Ok, Bool, cond, is_ok, ap, ◌∙◌}
 use Rattle.live_table.proofs.nodes.Nodes.push_row.Goals as goal
 
 -- a push that succeeded appended the item
