@@ -274,6 +274,7 @@ module _ (deck : DeckContents) (l : NodeLists) (r n : ℕ) (sound : IsSoundLiveT
           (λ m i. not_led m (edges.waiting_settled m i)) not_self;
     }
 
+    -- the same of equal nodes, and of an equal list of waiting names
     pub waiting_edges : (m : NodeLists)
         → ((o : Outcome) × (c : Callee) × (m ≡ nodes_with_settled_outcome n o c l))
         → (list : List ℕ) → list ≡ waiting ++ n ∷ [] → HasLateSettledEdges deck m list g
