@@ -1,3 +1,4 @@
 pub mod Growing
+pub mod IndexedTextLemmas
 pub mod Names
 pub mod Tables

@@ -5,6 +5,7 @@ pub mod Environment
 pub mod Faults
 pub mod FetchResults
 pub mod FileMap
+pub mod IndexedTexts
 pub mod Memory
 pub mod NamedValues
 pub mod Outcomes

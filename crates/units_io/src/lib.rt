@@ -14,6 +14,7 @@ mod source;
 mod steps;
 mod system;
 mod text;
+mod text_index;
 mod vars;
 
 pub use blanks::is_blank;
@@ -28,4 +29,5 @@ pub use source::{Failed, Source};
 pub use steps::Steps;
 pub use system::{DirFiles, StdSink, StdSource, collect_vars, collect_words};
 pub use text::Text;
+pub use text_index::{IndexText, TextIndex};
 pub use vars::Vars;
