@@ -1,14 +1,13 @@
 -- Pairs of a name and a value: the results of lookups, and pairs with one more value.
-use Rattle.std.proofs.Common.{◌≡◌, ◌≢◌, ℕ, List, [], ◌∷◌, ◌++◌, Option, Some, None, refl, sym, ap, subst, ◌∙◌, Bool}
-use Rattle.std.proofs.Common.{take, suc, zero, true, false, cond, Vec, Bor}
+use Rattle.std.proofs.Common.{◌≡◌, ◌≢◌, ℕ, List, [], ◌∷◌, ◌++◌, Option, Some, None, refl, sym, ap, ◌∙◌, Bool}
+use Rattle.std.proofs.Common.{slice_get, take, suc, zero, true, false, cond, Bor}
 use Rattle.std.specs.Prelude.{IfNone}
 use Rattle.std.specs.Option.{option_copied}
-use Rattle.std.specs.Map.{lookup}
 use Rattle.std.specs.Str.{bytes_eq}
+use Rattle.std.proofs.lemmas.Option.{same_Some}
 use Rattle.std.proofs.lemmas.Slice.Eq.{bytes_eq-Decides}
-use Rattle.indexmap.specs.IndexMap.{insert_entry}
 use Rattle.units_io.specs.NamedValues.{NamedTexts, named_text, with_named_text, SetsNamedText, HasNoTextOfName}
-use Rattle.units_io.specs.NamedValues.{HasDistinctTextNames, named_texts_of_map}
+use Rattle.units_io.specs.NamedValues.{HasDistinctTextNames}
 use Rattle.general_lemmas.proofs.Bytes.{ne_bytes_eq}
 
 -- names for which the test is false are different
@@ -130,46 +129,26 @@ HasNoName-before (p ∷ before) pair behind distinct =
     first [] none = λ e. none.0 (sym e)
     first (q ∷ before) none = first before none.1
 
-module _ {Y : Type 0} where
-  -- the first n pairs are those of the first n entries
-  pub pairs_of-take : (n : ℕ) (entries : List (Vec ℕ Y × List ℕ)) → named_texts_of_map (take n entries) ≡ take n
-      (named_texts_of_map entries)
-  pairs_of-take zero entries = refl
-  pairs_of-take (suc n) [] = refl
-  pairs_of-take (suc n) (entry ∷ entries) = ap (λ (ps : NamedTexts). (entry.0.items, entry.1) ∷ ps)
-      (pairs_of-take n entries)
+-- the name of a pair differs from a name that no pair has
+pair_has_other_name : (pairs : NamedTexts) (name : List ℕ) (n : ℕ) (pair : List ℕ × List ℕ) → HasNoTextOfName pairs name
+    → slice_get pairs n ≡ Some pair → name ≢ pair.0
+pair_has_other_name [] name n pair none at same = absurd (cc)
+pair_has_other_name (p ∷ pairs) name zero pair none at same =
+    none.0 (ap (λ (q : List ℕ × List ℕ). q.0) (same_Some p pair at) ∙ sym same)
+pair_has_other_name (p ∷ pairs) name (suc n) pair none at same = pair_has_other_name pairs name n pair none.1 at same
 
-  -- a lookup in an index map is a lookup among its pairs
-  pub value_of-pairs_of : (entries : List (Vec ℕ Y × List ℕ)) (name : List ℕ)
-      → lookup (λ key. bytes_eq name key.items) entries ≡ named_text (named_texts_of_map entries) name
-  value_of-pairs_of [] name = refl
-  value_of-pairs_of (entry ∷ entries) name =
-      ap (λ o. cond (bytes_eq name entry.0.items) (Some entry.1) o) (value_of-pairs_of entries name)
+-- if names are distinct, no pair before a place has the name there
+pub HasNoName-before_place : (pairs : NamedTexts) (n : ℕ) (pair : List ℕ × List ℕ) → HasDistinctTextNames pairs
+    → slice_get pairs n ≡ Some pair → HasNoTextOfName (take n pairs) pair.0
+HasNoName-before_place [] n pair distinct at = absurd (cc)
+HasNoName-before_place (p ∷ pairs) zero pair distinct at = tt
+HasNoName-before_place (p ∷ pairs) (suc n) pair distinct at =
+    (pair_has_other_name pairs p.0 n pair distinct.0 at, HasNoName-before_place pairs n pair distinct.1 at)
 
-  -- an insertion into an index map sets a value among its pairs
-  pub pairs_of-insert : (entries : List (Vec ℕ Y × List ℕ)) (key : Vec ℕ Y) (value : List ℕ)
-      → named_texts_of_map (insert_entry (λ x y. bytes_eq x.items y.items) entries key value)
-      ≡ with_named_text (named_texts_of_map entries) key.items value
-  pairs_of-insert [] key value = refl
-  pairs_of-insert (entry ∷ entries) key value = by _ refl (pairs_of-insert entries key value)
-    where
-      by : (b : Bool) → bytes_eq key.items entry.0.items ≡ b
-          → named_texts_of_map (insert_entry (λ x y. bytes_eq x.items y.items) entries key value)
-          ≡ with_named_text (named_texts_of_map entries) key.items value
-          → named_texts_of_map (insert_entry (λ x y. bytes_eq x.items y.items) (entry ∷ entries) key value)
-          ≡ with_named_text (named_texts_of_map (entry ∷ entries)) key.items value
-      by true is later = rw is refl
-      by false is later = rw is (ap (λ (ps : NamedTexts). (entry.0.items, entry.1) ∷ ps) later)
-
-  -- the next name to copy differs from those already copied
-  pub HasNoName-next : (pairs copied : NamedTexts) (rest behind : List (Vec ℕ Y × List ℕ)) (key : Vec ℕ Y)
-      (value name : List ℕ)
-      → HasDistinctTextNames pairs
-      → copied ++ named_texts_of_map rest ≡ pairs → rest ≡ (key, value) ∷ behind → name ≡ key.items
-      → HasNoTextOfName copied name
-  HasNoName-next pairs copied rest behind key value name distinct whole is named =
-      let parts : pairs ≡ copied ++ (key.items, value) ∷ named_texts_of_map behind =
-      sym whole ∙ ap (λ (es : List (Vec ℕ Y × List ℕ)). copied ++ named_texts_of_map es) is in
-      subst (HasNoTextOfName copied) (sym named)
-      (HasNoName-before copied (key.items, value) (named_texts_of_map behind)
-      (subst HasDistinctTextNames parts distinct))
+-- if there is no pair at a place, all pairs are before it
+pub named_texts_before_end : (pairs : NamedTexts) (n : ℕ) → slice_get pairs n ≡ None → take n pairs ≡ pairs
+named_texts_before_end [] zero none = refl
+named_texts_before_end [] (suc n) none = refl
+named_texts_before_end (p ∷ pairs) zero none = absurd (cc)
+named_texts_before_end (p ∷ pairs) (suc n) none =
+    ap (λ (ps : NamedTexts). p ∷ ps) (named_texts_before_end pairs n none)

@@ -1,5 +1,5 @@
 -- Names with their values, as a list of pairs.
-use Rattle.std.specs.Prelude.{◌≡◌, ◌≢◌, ℕ, List, [], ◌∷◌, Option, Some, Vec, ⊤, map, if◌then◌else◌}
+use Rattle.std.specs.Prelude.{◌≡◌, ◌≢◌, ℕ, List, [], ◌∷◌, Option, Some, ⊤, if◌then◌else◌}
 use Rattle.std.specs.Map.{lookup}
 use Rattle.std.specs.Str.{bytes_eq}
 
@@ -31,7 +31,3 @@ HasNoTextOfName (pair ∷ pairs) name = (pair.0 ≢ name) × HasNoTextOfName pai
 abbrev pub HasDistinctTextNames : NamedTexts → Type 0
 HasDistinctTextNames [] = ⊤
 HasDistinctTextNames (pair ∷ pairs) = HasNoTextOfName pairs pair.0 × HasDistinctTextNames pairs
-
--- the pairs of the entries of an index map
-abbrev pub named_texts_of_map : {Y : Type 0} → List (Vec ℕ Y × List ℕ) → NamedTexts
-named_texts_of_map entries = map (λ entry. (entry.0.items, entry.1)) entries

@@ -114,8 +114,8 @@ impl TextIndex {
         }
     }
 
-    // Appends a text that the index does not have, and returns its number.
-    fn append(&mut self, text: IndexText) -> usize
+    /// Appends a text that the index does not have, and returns its number. Allocates no memory.
+    pub(crate) fn append(&mut self, text: IndexText) -> usize
         requires room { 0 < self.old.spare }
         requires new { list_any (bytes_eq text) self.old.texts ≡ false }
         ensures texts { self.new.texts ≡ self.old.texts ++ text ∷ [] }

@@ -6,30 +6,38 @@ ghost use Rattle.units_io.specs.NamedValues.{HasDistinctTextNames};
 
 use crate::hash_seed::HashSeed;
 use crate::text::Text;
-use indexmap::IndexMap;
+use crate::text_index::{IndexText, TextIndex};
 use std::alloc::{AllocError, Global};
 use std::marker::Model;
 
 /// An ordered list of pairs of a name and its value, in which the names are distinct. A lookup uses no memory, and its
 /// time does not depend on the number of pairs.
 pub struct Vars {
-    map: IndexMap<Vec<u8>, Text, HashSeed>,
+    names: TextIndex,
+    // The value of each name, at the number of the name.
+    values: Vec<Text>,
 }
 
 impl Drop for Vars {
     fn drop(self) {
-        let Vars { map: _ } = self;
+        let Vars {
+            names: _,
+            values: _,
+        } = self;
     }
 }
 
 impl Model for Vars {
-    ghost use Rattle.units_io.specs.NamedValues.{NamedTexts, named_texts_of_map, HasDistinctTextNames};
+    ghost use Rattle.std.specs.Prelude.{◌≡◌, length};
+    ghost use Rattle.std.specs.List.{zip};
+    ghost use Rattle.units_io.specs.NamedValues.{NamedTexts, HasDistinctTextNames};
 
     ghost Value = { NamedTexts };
 
-    ghost view = { λ vars. named_texts_of_map vars.map.entries };
+    ghost view = { λ vars. zip vars.names.texts vars.values.items };
 
-    ghost invariant = { λ vars. HasDistinctTextNames (named_texts_of_map vars.map.entries) };
+    ghost invariant = { λ vars. HasDistinctTextNames (zip vars.names.texts vars.values.items)
+        × (length vars.values.items ≡ length vars.names.texts) };
 }
 
 impl Vars {
@@ -45,13 +53,14 @@ impl Vars {
         ensures { result ≡ [] }
     {
         Vars {
-            map: IndexMap::with_hasher(alloc, seed),
+            names: TextIndex::new(alloc, seed),
+            values: Vec::new(alloc),
         }
     }
 
     /// Returns the seed of the table.
     pub fn table_seed(&self) -> HashSeed {
-        *self.map.hasher()
+        self.names.seed()
     }
 
     /// Appends a pair whose name is new: `value` must return `None` for it. On an error nothing changes.
@@ -61,7 +70,11 @@ impl Vars {
         ensures err { OnErr result (self.new ≡ self.old) }
     {
         let (name, value) = item;
-        self.set(alloc, name, value)
+        let name = IndexText::from_text(alloc, name)?;
+        self.names.reserve(1)?;
+        self.values.push(value)?;
+        self.names.append(name);
+        Ok(())
     }
 
     /// Appends a copy of a pair whose name is new. On an error nothing changes.
@@ -82,21 +95,27 @@ impl Vars {
 
     /// Sets the value of a name: replaces the current value if the name has one, and appends a new pair otherwise. On
     /// an error nothing changes.
-    pub fn set(&mut self, _alloc: Global, name: Text, value: Text) -> Result<(), AllocError>
+    pub fn set(&mut self, alloc: Global, name: Text, value: Text) -> Result<(), AllocError>
         ensures ok { OnOk result (self.new ≡ with_named_text self.old name value) }
         ensures values { OnOk result (SetsNamedText self.old self.new name value) }
         ensures err { OnErr result (self.new ≡ self.old) }
         ensures distinct { HasDistinctTextNames self.new }
     {
-        self.map.insert(name.into_bytes(), value)?;
-        Ok(())
+        match self.names.number_of(name.as_bytes()) {
+            Some(number) => {
+                self.values[number] = value;
+                Ok(())
+            }
+            None => self.push(alloc, (name, value)),
+        }
     }
 
     /// Drops the pairs from index `len` on. This uses no memory, and no time for the pairs before that index.
     pub fn truncate(&mut self, len: usize)
         ensures { self.new ≡ take len self.old }
     {
-        self.map.truncate(len);
+        self.names.truncate(len);
+        self.values.truncate(len);
     }
 
     /// Returns the number of pairs.
@@ -104,15 +123,16 @@ impl Vars {
         ensures len { result ≡ length self.now }
         ensures distinct { HasDistinctTextNames self.now }
     {
-        self.map.len()
+        self.names.len()
     }
 
     /// Returns the name and the value of the pair at index `i`, counted from 0, or `None` if `i` is out of bounds.
     pub fn get(&self, i: usize) -> Option<(&[u8], &Text)>
         ensures { option_map (λ pair. (pair.0.now, pair.1.now)) result ≡ slice_get self.now i }
     {
-        let (name, value) = self.map.get_index(i)?;
-        Some((name.as_slice(), value))
+        let name = self.names.text(i)?;
+        let value = self.values.get(i)?;
+        Some((name, value))
     }
 
     /// Returns the value of the pair with this name, or `None` if no pair has it.
@@ -120,7 +140,8 @@ impl Vars {
         ensures value { option_copied result ≡ named_text self.now name.now }
         ensures absent { IfNone result (HasNoTextOfName self.now name.now) }
     {
-        self.map.get(name)
+        let number = self.names.number_of(name)?;
+        self.values.get(number)
     }
 
     /// Returns a copy of the list that owns its memory and whose table uses the same seed.
@@ -128,8 +149,8 @@ impl Vars {
         ensures { IfOk result (λ copy. copy ≡ self.now) }
     {
         let mut copy = Vars::with_capacity(alloc, self.len(), self.table_seed())?;
-        for (name, value) in &self.map {
-            copy.push_copy(alloc, name.as_slice(), value.as_bytes())?;
+        while let Some((name, value)) = self.get(copy.len()) {
+            copy.push_copy(alloc, name, value.as_bytes())?;
         }
         Ok(copy)
     }
@@ -138,7 +159,8 @@ impl Vars {
     fn with_capacity(alloc: Global, len: usize, seed: HashSeed) -> Result<Vars, AllocError>
         ensures { IfOk result (λ vars. vars ≡ []) }
     {
-        let map = IndexMap::with_capacity_and_hasher(alloc, len, seed)?;
-        Ok(Vars { map })
+        let names = TextIndex::with_capacity(alloc, len, seed)?;
+        let values = Vec::with_capacity(alloc, len)?;
+        Ok(Vars { names, values })
     }
 }

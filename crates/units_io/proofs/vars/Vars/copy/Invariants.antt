@@ -1,8 +1,10 @@
-use Rattle.std.proofs.Common.{◌≡◌, ◌++◌}
-use Rattle.units_io.specs.NamedValues.{named_texts_of_map}
+use Rattle.std.proofs.Common.{◌≡◌, ◌-◌, length, take}
 use Rattle.units_io.proofs.vars.Vars.copy.Given as goal
 
 abbrev pub invariant-loop-name : goal.invariant-loop-name
 invariant-loop-name l = record {
-  copied : l.copy ++ named_texts_of_map l.name-iterator ≡ l.fn.self;
+  front : l.copy ≡ take (length l.copy) l.fn.self;
 }
+
+abbrev pub decreases-loop-name : goal.decreases-loop-name
+decreases-loop-name l = length l.fn.self - length l.copy

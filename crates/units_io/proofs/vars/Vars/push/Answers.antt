@@ -1,7 +1,41 @@
-use Rattle.std.proofs.Common.{◌∙◌}
-use Rattle.std.proofs.lemmas.Result.{on_ok_weaker}
-use Rattle.units_io.proofs.Names.{with_named_text-new}
+use Rattle.std.proofs.Common.{◌≡◌, ◌∙◌, ◌+◌, ◌++◌, ◌∷◌, [], ap, sym, subst, rules}
+use Rattle.std.proofs.lemmas.List.{length-append}
+use Rattle.std.specs.List.{zip}
+use Rattle.units_io.specs.NamedValues.{NamedTexts, HasNoTextOfName, HasDistinctTextNames}
+use Rattle.units_io.proofs.Names.{HasDistinctNames-with_value}
+use Rattle.units_io.proofs.NamedTextColumns.{names_any-HasNoTextOfName, with_named_text-appended, named_columns-append}
 use Rattle.units_io.proofs.vars.Vars.push.Goals as goal
 
+pub append-requires-clause-new : goal.append-requires-clause-new
+append-requires-clause-new c =
+    let names = c.self.inside.names.texts in
+    let values = c.self.inside.values.items in
+    let none : HasNoTextOfName (zip names values) c.in_ok-name.name =
+    subst (λ (pairs : NamedTexts). HasNoTextOfName pairs c.in_ok-name.name) (sym c.self.view_is)
+    (subst (HasNoTextOfName c.args.self.now) (sym c.in_ok-name.ensures) c.requires) in
+    rw c.reserve.ensures.texts (names_any-HasNoTextOfName names values c.in_ok-name.name c.self.invariant.1 none)
+
+pub invariant_of-self-2 : goal.invariant_of-self-2
+invariant_of-self-2 c =
+    let names = c.self.inside.names.texts in
+    let values = c.self.inside.values.items in
+    let more_names : c.append.new.self.texts ≡ names ++ c.in_ok-name.name ∷ [] = search rules in
+    let more_values : c.push.new.self.items ≡ values ++ c.args.item.1 ∷ [] = search rules in
+    let none : HasNoTextOfName (zip names values) c.in_ok-name.name =
+    subst (λ (pairs : NamedTexts). HasNoTextOfName pairs c.in_ok-name.name) (sym c.self.view_is)
+    (subst (HasNoTextOfName c.args.self.now) (sym c.in_ok-name.ensures) c.requires) in (
+      subst HasDistinctTextNames
+          (sym (with_named_text-appended names values _ _ _ _ c.self.invariant.1 none more_names more_values))
+          (HasDistinctNames-with_value (zip names values) c.in_ok-name.name c.args.item.1 c.self.invariant.0),
+      rw (more_names, more_values) (length-append values (c.args.item.1 ∷ []) ∙ ap (λ n. n + 1) c.self.invariant.1
+          ∙ sym (length-append names (c.in_ok-name.name ∷ []))),
+    )
+
 pub returns-clause-ok : goal.returns-clause-ok
-returns-clause-ok c = on_ok_weaker c.set.result (λ set. set ∙ with_named_text-new _ _ _ c.requires) c.set.ensures.ok
+returns-clause-ok c =
+    let names = c.self.inside.names.texts in
+    let values = c.self.inside.values.items in
+    let more_names : c.append.new.self.texts ≡ names ++ c.args.item.0 ∷ [] = search rules in
+    let more_values : c.push.new.self.items ≡ values ++ c.args.item.1 ∷ [] = search rules in
+    rw (more_names, more_values) (named_columns-append names values c.args.item.0 c.args.item.1 c.self.invariant.1
+    ∙ ap (λ (pairs : NamedTexts). pairs ++ c.args.item ∷ []) c.self.view_is)
