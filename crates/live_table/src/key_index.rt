@@ -8,14 +8,14 @@ ghost use Rattle.live_table.specs.TableContents.{node_key_at};
 
 use crate::stored_keys::{StoredKey, kind_of_byte, overwrite, store};
 use def_entry::{Key, Kind};
-use indexmap::IndexSet;
 use std::alloc::{AllocError, Global};
 use std::marker::Model;
-use units_io::{HashSeed, Text};
+use units_io::{HashSeed, IndexText, Text, TextIndex};
 
 /// Keys in insertion order. The number of a key is the number of keys before it.
 pub(crate) struct KeyIndex {
-    keys: IndexSet<StoredKey, HashSeed>,
+    // each key in the form of a `StoredKey`
+    keys: TextIndex,
     // the key that was looked up last, with room for the longest of all keys, so that a lookup allocates no memory
     wanted: StoredKey,
 }
@@ -42,9 +42,9 @@ impl Model for KeyIndex {
 
     ghost Value = { List Key };
 
-    ghost view = { λ x. decoded_node_keys x.keys.keys };
+    ghost view = { λ x. decoded_node_keys x.keys.texts };
 
-    ghost invariant = { λ x. All (IsStoredNodeKey (vec_capacity x.wanted)) x.keys.keys };
+    ghost invariant = { λ x. All (IsStoredNodeKey (vec_capacity x.wanted)) x.keys.texts };
 }
 
 impl KeyIndex {
@@ -53,7 +53,7 @@ impl KeyIndex {
         ensures { result ≡ [] }
     {
         KeyIndex {
-            keys: IndexSet::with_hasher(alloc, seed),
+            keys: TextIndex::new(alloc, seed),
             wanted: StoredKey::new(alloc),
         }
     }
@@ -75,7 +75,7 @@ impl KeyIndex {
             return None;
         }
         overwrite(&mut self.wanted, kind, name).unwrap();
-        self.keys.get_index_of(&self.wanted)
+        self.keys.number_of(&self.wanted)
     }
 
     /// Returns the number of a key, or `None` if it has none. The only error is lack of memory.
@@ -89,7 +89,7 @@ impl KeyIndex {
             (λ n. slice_get self.now n ≡ Some (key kind name.now))) }
     {
         let wanted = store(alloc, kind, name)?;
-        Ok(self.keys.get_index_of(&wanted))
+        Ok(self.keys.number_of(&wanted))
     }
 
     /// Returns the kind of the key with number `n`.
@@ -113,7 +113,7 @@ impl KeyIndex {
         requires { n < length self.now }
         ensures { result.now ≡ node_key_bytes (node_key_at self.now n) }
     {
-        self.keys.as_slice()[n].as_slice()
+        self.keys.text(n).unwrap()
     }
 
     /// Returns a copy of the key with number `n`, or a key with an empty name beyond the last. The only error is lack
@@ -171,11 +171,10 @@ impl KeyIndex {
         ensures ok { IfOk result (λ n. IsNodeKeyAdded (key kind name.now) self.old self.new n true) }
         ensures err { OnErr result (self.new ≡ self.old) }
     {
-        let bytes = store(alloc, kind, name)?;
-        // Makes room to look the key up before it is added.
-        self.wanted.clear();
-        self.wanted.reserve(bytes.len())?;
-        let (number, _) = self.keys.insert_full(bytes)?;
-        Ok(number)
+        // Makes room for later lookups of the key.
+        overwrite(&mut self.wanted, kind, name)?;
+        let bytes = IndexText::new(alloc, &self.wanted)?;
+        self.keys.reserve(1)?;
+        Ok(self.keys.put(bytes))
     }
 }

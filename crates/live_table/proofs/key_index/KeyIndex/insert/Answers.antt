@@ -1,27 +1,26 @@
-use Rattle.std.proofs.Common.{◌≤◌, arith, length, vec_capacity}
+use Rattle.std.proofs.Common.{◌≤◌, ◌∙◌, ap, arith, length, vec_capacity}
 use Rattle.def_entry.specs.Keys.{key}
+use Rattle.units_io.specs.IndexedTexts.{with_indexed_text}
 use Rattle.live_table.proofs.IndexKeys.{new_node_key_gets_number, node_keys_with_new_key_fit}
 use Rattle.live_table.proofs.key_index.KeyIndex.insert.Goals as goal
 
 pub returns-clause-ok : goal.returns-clause-ok
 returns-clause-ok c =
-    new_node_key_gets_number (vec_capacity c.self.inside.wanted) c.self.inside.keys.keys c.insert_full.new.self.keys
+    new_node_key_gets_number (vec_capacity c.self.inside.wanted) c.self.inside.keys.texts c.put.new.self.texts
     c.args.self.now (key c.args.kind c.args.name.now) c.in_ok-bytes.bytes c.self.invariant c.self.view_is
-    c.in_ok-bytes.ensures c.requires c.in_ok-number.ensures.keys c.in_ok-number.number c.in_ok-number.ensures.stored
+    (c.in_ok-bytes.ensures ∙ c.deref.ensures.value ∙ c.in_ok-overwrite.ensures.ok) c.requires
+    (c.put.ensures.texts ∙ ap (with_indexed_text c.in_ok-bytes.bytes) c.reserve.ensures.texts)
+    c.put.result c.put.ensures.number
 
 pub invariant_of-self-2 : goal.invariant_of-self-2
 invariant_of-self-2 c =
-    let grown : vec_capacity c.self.inside.wanted ≤ vec_capacity c.reserve.new.self = omega (
+    let fits : length c.in_ok-bytes.bytes ≤ vec_capacity c.overwrite.new.bytes = omega (
       arith,
-      c.clear.ensures.capacity,
-      c.reserve.ensures.capacity,
+      ap length (c.in_ok-bytes.ensures ∙ c.deref.ensures.value),
+      c.overwrite.new.bytes.ok.0,
     ) in
-    let fits : length c.in_ok-bytes.bytes.items ≤ vec_capacity c.reserve.new.self = omega (
-      arith,
-      c.in_ok-bytes.bytes.ok.0,
-      c.len.ensures,
-      c.in_ok-reserve.ensures.ok,
-    ) in
-    node_keys_with_new_key_fit (vec_capacity c.self.inside.wanted) c.self.inside.keys.keys c.insert_full.new.self.keys
+    node_keys_with_new_key_fit (vec_capacity c.self.inside.wanted) c.self.inside.keys.texts c.put.new.self.texts
     c.args.self.now (key c.args.kind c.args.name.now) c.in_ok-bytes.bytes c.self.invariant c.self.view_is
-    c.in_ok-bytes.ensures c.requires c.in_ok-number.ensures.keys (vec_capacity c.reserve.new.self) grown fits
+    (c.in_ok-bytes.ensures ∙ c.deref.ensures.value ∙ c.in_ok-overwrite.ensures.ok) c.requires
+    (c.put.ensures.texts ∙ ap (with_indexed_text c.in_ok-bytes.bytes) c.reserve.ensures.texts)
+    (vec_capacity c.overwrite.new.bytes) c.overwrite.ensures.room fits
