@@ -116,11 +116,11 @@ AreTextNumbers-front old new texts text numbers sets other n = by _ refl
         )
 
 -- a query for another key finds the same before and after a change
-others_keep_lookups : {K X : Type 0} (eq : K → K → Bool) (test : K → Bool) (old new : List (K × X))
+other_text_keeps_lookup : {K X : Type 0} (eq : K → K → Bool) (test : K → Bool) (old new : List (K × X))
     → KeepsOthers eq test old new → (other : K → Bool) → IsKeyTest eq other → AreApart test other
     → lookup other new ≡ lookup other old
 unfolding KeepsOthers
-others_keep_lookups eq test old new keeps = keeps
+other_text_keeps_lookup eq test old new keeps = keeps
 
 -- a lookup by text finds a key of the text, or nothing
 text_number_key : (Y : Type 0) (entries : List (Vec ℕ Y × ℕ)) (text : List ℕ) (n : ℕ)
@@ -167,10 +167,10 @@ module _ {Y S : Type 0} where
           → text_number new other ≡ cond (bytes_eq text other) number (text_number old other)
       by true is = rw is (subst (λ t. text_number new t ≡ number) ((bytes_eq-Decides text other).0 is) updates.1)
       by false is =
-          rw is (others_keep_lookups _ _ _ _ updates.3 (λ key. bytes_eq other key.items)
+          rw is (other_text_keeps_lookup _ _ _ _ updates.3 (λ key. bytes_eq other key.items)
           (λ a b. nat_list_eq_equiv.congr other a.items b.items) (apart is))
 
--- a fact of success holds of a result that is no error
-pub fact_without_error : {T E P : Type 0} (result : Result T E) → is_err result ≡ false → OnOk result P → P
-fact_without_error (Ok v) is fact = fact
-fact_without_error (Err e) is fact = absurd (true≢false is)
+-- the fact of a successful insertion holds if the insertion gave no error
+pub text_insertion_fact : {T E P : Type 0} (result : Result T E) → is_err result ≡ false → OnOk result P → P
+text_insertion_fact (Ok v) is fact = fact
+text_insertion_fact (Err e) is fact = absurd (true≢false is)

@@ -1,5 +1,5 @@
-//! Texts, lists of texts and the bytes that separate words, and the things that a program reads from and writes to:
-//! sources, sinks and files, both of the system and in memory.
+//! Texts, lists and indexes of texts, the bytes that separate words, and the things that a program reads from and
+//! writes to: sources, sinks and files, both of the system and in memory.
 #![tactic(auto)]
 
 mod blanks;

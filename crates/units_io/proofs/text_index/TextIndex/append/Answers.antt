@@ -3,7 +3,7 @@ use Rattle.std.specs.Result.{is_err}
 use Rattle.std.specs.List.{list_any}
 use Rattle.std.specs.Str.{bytes_eq}
 use Rattle.units_io.specs.IndexedTexts.{AreTextNumbers, text_number, IndexedTexts}
-use Rattle.units_io.proofs.IndexedTextLemmas.{AreTextNumbers-append, text_number-updated, fact_without_error}
+use Rattle.units_io.proofs.IndexedTextLemmas.{AreTextNumbers-append, text_number-updated, text_insertion_fact}
 use Rattle.units_io.proofs.text_index.TextIndex.append.Goals as goal
 
 pub invariant_of-self : goal.invariant_of-self
@@ -17,7 +17,7 @@ invariant_of-self c =
     subst (AreTextNumbers (text_number c.insert.new.self)) (sym texts)
     (AreTextNumbers-append (text_number c.self.inside.numbers) _ old c.args.text c.self.invariant absent (λ other.
     text_number-updated c.self.inside.numbers c.insert.new.self c.into_copies-key.result.0.items _
-    (fact_without_error c.insert.result inserted c.insert.ensures.updates) other
+    (text_insertion_fact c.insert.result inserted c.insert.ensures.updates) other
     ∙ ap (λ text. cond (bytes_eq text other) (Some c.len-number.result) (text_number c.self.inside.numbers other))
     c.into_copies-key.ensures.0
     ∙ ap (λ n. cond (bytes_eq c.args.text other) (Some n) (text_number c.self.inside.numbers other)) number))
