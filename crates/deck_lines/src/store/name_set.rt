@@ -6,14 +6,13 @@ ghost use Rattle.std.specs.Option.{option_copied};
 ghost use Rattle.std.specs.Str.{bytes_eq};
 ghost use Rattle.deck_lines.specs.Names.{key_number_names_with_name};
 
-use indexmap::IndexSet;
 use std::alloc::{AllocError, Global};
 use std::marker::Model;
-use units_io::HashSeed;
+use units_io::{HashSeed, IndexText, TextIndex};
 
 /// A set of names. Each name is numbered by how many names were added before it.
 pub(crate) struct NameSet {
-    names: IndexSet<Vec<u8>, HashSeed>,
+    names: TextIndex,
     // An upper bound of the lengths of the names. Each front of a word is looked up as a prefix: a front that is longer
     // than all prefixes need not be hashed, so that a long word costs no more than its length.
     longest: usize,
@@ -30,15 +29,13 @@ impl Drop for NameSet {
 }
 
 impl Model for NameSet {
-    ghost use Rattle.std.specs.Prelude.{map};
-    ghost use Rattle.indexmap.specs.IndexSet.{spare};
     ghost use Rattle.deck_lines.specs.NumberedNames.{AreKeyNamesUpTo, NumberedKeyNames};
 
     ghost Value = { NumberedKeyNames };
 
-    ghost view = { λ s. record { names = map (λ name. name.items) s.names.keys; spare_names = spare s.names } };
+    ghost view = { λ s. record { names = s.names.texts; spare_names = s.names.spare } };
 
-    ghost invariant = { λ s. AreKeyNamesUpTo s.longest (map (λ name. name.items) s.names.keys) };
+    ghost invariant = { λ s. AreKeyNamesUpTo s.longest s.names.texts };
 }
 
 impl NameSet {
@@ -47,14 +44,14 @@ impl NameSet {
         ensures { result.names ≡ [] }
     {
         NameSet {
-            names: IndexSet::with_hasher(alloc, seed),
+            names: TextIndex::new(alloc, seed),
             longest: 0,
         }
     }
 
     /// Returns the hash seed of the table.
     pub fn table_seed(&self) -> HashSeed {
-        *self.names.hasher()
+        self.names.seed()
     }
 
     /// Returns the number of names.
@@ -73,17 +70,14 @@ impl NameSet {
         if self.longest < name.len() {
             return None;
         }
-        self.names.get_index_of(name)
+        self.names.number_of(name)
     }
 
     /// Returns the name with this number, or `None` if there is no such name.
     pub fn name(&self, number: usize) -> Option<&[u8]>
         ensures { option_copied result ≡ slice_get self.now.names number }
     {
-        match self.names.get_index(number) {
-            Some(name) => Some(name.as_slice()),
-            None => None,
-        }
+        self.names.text(number)
     }
 
     /// Makes room for one more name.
@@ -95,15 +89,12 @@ impl NameSet {
     }
 
     /// Gives a name the next number, unless it has a number, and returns its number. Allocates no memory.
-    pub fn put(&mut self, name: Vec<u8>) -> usize
+    pub fn put(&mut self, name: IndexText) -> usize
         requires { 0 < self.old.spare_names }
-        ensures names { self.new.names ≡ key_number_names_with_name name.items self.old.names }
-        ensures number { slice_get self.new.names result ≡ Some name.items }
+        ensures names { self.new.names ≡ key_number_names_with_name name self.old.names }
+        ensures number { slice_get self.new.names result ≡ Some name }
     {
-        self.longest = self.longest.max(name.len());
-        match self.names.insert_full(name) {
-            Ok((number, _)) => number,
-            Err(_) => unreachable!(),
-        }
+        self.longest = self.longest.max(name.as_bytes().len());
+        self.names.put(name)
     }
 }

@@ -87,6 +87,6 @@ fn number_line(
     };
     let kind = number.kind;
     let name = Text::from_bytes(alloc, name)?;
-    keys.reserve_one(kind)?;
-    Ok(Some(keys.put(Key { kind, name })))
+    let key = keys.reserve_for(alloc, Key { kind, name })?;
+    Ok(Some(keys.put(key)))
 }
