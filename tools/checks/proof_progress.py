@@ -16,30 +16,28 @@ from typing import TypeVar
 T = TypeVar("T")
 PERIOD = 60.0  # seconds between two lines of progress
 PROOF_BYTES = 4 << 30  # more than the memory of any proof
-PROVED = re.compile(r"rt: (\w+)(: its tests)? (?:proved|is kept: .*)")
+PROVED = re.compile(r"rt: (\w+) (?:proved|is kept: .*)")
 # The lines of rt to show; the rest is one line for each function.
 SUMMARY = re.compile(r"rt: |error|\d+ passed, ")
 
 
 @dataclass
 class Progress:
-    """The number of crates, the start, the crates whose proof is done, and those whose tests are done."""
+    """The number of crates, the start, and the crates whose proof is done."""
 
     crates: int
     begin: float = field(default_factory=time.monotonic)
     proved: set[str] = field(default_factory=set)
-    tested: set[str] = field(default_factory=set)
 
     def read(self, line: str) -> None:
         match = PROVED.match(line)
         if match:
-            (self.tested if match[2] else self.proved).add(match[1])
+            self.proved.add(match[1])
 
     def line(self, running: list[str]) -> str:
         minutes, seconds = divmod(int(time.monotonic() - self.begin), 60)
         now = ", ".join(running) if running else "nothing"
-        counts = f"{len(self.proved)} of {self.crates} crates proved, the tests of {len(self.tested)}"
-        return f"[{minutes}:{seconds:02} min] {counts}; now: {now}"
+        return f"[{minutes}:{seconds:02} min] {len(self.proved)} of {self.crates} crates proved; now: {now}"
 
 
 def number_of_crates(root: Path) -> int:
@@ -58,7 +56,7 @@ def is_descendant(process: str, ancestor: int) -> bool:
 
 
 def work_below(ancestor: int) -> list[str]:
-    """The crates and tests on which the provers started by a process are working."""
+    """The crates on which the provers started by a process are working."""
     names = set()
     for process in filter(str.isdigit, os.listdir("/proc")):
         try:
@@ -67,10 +65,7 @@ def work_below(ancestor: int) -> list[str]:
                 continue
         except OSError:
             continue
-        name = words[words.index("--crate-name") + 1]
-        if "--test" in words:
-            name += " (tests)"
-        names.add(name)
+        names.add(words[words.index("--crate-name") + 1])
     return sorted(names)
 
 
@@ -111,7 +106,7 @@ def prove(root: Path, crates: list[str], result_of: Callable[[str, int], T]) -> 
     (root / "out").mkdir(exist_ok=True)
     log = root / "out/rt-ci.log"
     progress = Progress(number_of_crates(root))
-    print(f"== proofs, tests and runs (the whole output: {log.relative_to(root)})", flush=True)
+    print(f"== proofs and runs (the whole output: {log.relative_to(root)})", flush=True)
     try:
         process = subprocess.Popen(
             ["rt", "ci", *crates], cwd=root, env=environment(),
