@@ -61,6 +61,7 @@ QUICK = [
     Check("transcripts", ("tools/checks/transcripts.py",)),
     Check("statuses", ("tools/checks/check_statuses.sh",)),
     Check("launcher", ("tools/checks/check_launcher.sh",)),
+    Check("archive of the C library", ("tools/checks/check_c_archive.sh",)),
     Check("library", ("tools/checks/check_library.sh",)),
     Check("install", ("tools/checks/check_install.sh",)),
     Check("completions", ("tools/checks/check_completions.py",)),

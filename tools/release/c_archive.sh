@@ -5,7 +5,8 @@
 # crate; no source of the crate may be newer. `rattle build` then checks every proof of units_c with these libraries and
 # compiles the checked code, in one command; if a proof fails, it writes nothing. crates/units_c/out/made_from has the
 # toolchain, the checksums of the sources, of each library and of the archive, and the verdict. The archive is built
-# again only if these change.
+# again only if these change: ~/.cache/units/c_archive (or below XDG_CACHE_HOME) has the archives of the last runs on this
+# machine, for all clones of the repository.
 # Statuses: 1 if units_c is not proved, 3 if a library is missing or older than its sources, 127 without the toolchain.
 set -euo pipefail
 script=$(readlink -f "${BASH_SOURCE[0]}")
@@ -16,6 +17,8 @@ crate=units_c
 out=$root/crates/$crate/out
 archive=$out/lib$crate.a
 made_from=$out/made_from
+cache=${XDG_CACHE_HOME:-${HOME:-}/.cache}/units/c_archive
+most_cached=4
 
 if [ $# -ne 0 ]; then
     sed -n '2,/^set/s/^# \{0,1\}//p' "$script" >&2
@@ -63,10 +66,26 @@ print_inputs() {
     done
 }
 
+# has_archive: whether crates/units_c/out has the archive of these inputs, undamaged.
+has_archive() {
+    [ -e "$archive" ] && [ "$(grep -v '^verdict ' "$made_from" 2> /dev/null)" = "$inputs
+archive $(sha256sum "$archive" | cut -d ' ' -f 1)" ]
+}
+
+# cache_archive: copies the archive to the cache, and removes the oldest ones there. If the cache cannot be written, the
+# next clone builds the archive again.
+cache_archive() (
+    mkdir -p "$cache" && new=$(mktemp -d "$cache/new.XXXXXX") || return
+    trap 'rm -rf "$new"' EXIT
+    cp "$archive" "$made_from" "$new" && rm -rf "$cached" && mv -T "$new" "$cached" || return
+    find "$cache" -mindepth 1 -maxdepth 1 -name '[0-9a-f]*' -printf '%T@ %p\n' | sort -rn \
+        | tail -n "+$((most_cached + 1))" | cut -d ' ' -f 2- | while IFS= read -r old; do rm -rf "$old"; done
+)
+
 mkdir -p "$out"
 inputs=$(print_inputs)
-if [ -e "$archive" ] && [ "$(grep -v '^verdict ' "$made_from" 2> /dev/null)" = "$inputs
-archive $(sha256sum "$archive" | cut -d ' ' -f 1)" ]; then
+cached=$cache/$(sha256sum <<< "$inputs" | cut -d ' ' -f 1)
+if has_archive || { cp "$cached/lib$crate.a" "$cached/made_from" "$out" 2> /dev/null && has_archive; }; then
     echo "$archive"
     exit
 fi
@@ -93,4 +112,5 @@ fi
     echo "archive $(sha256sum "$archive" | cut -d ' ' -f 1)"
     sed -n 's/^logic=/verdict logic=/p' "$out/build.log"
 } > "$made_from"
+cache_archive 2> /dev/null || true
 echo "$archive"
