@@ -53,6 +53,23 @@ indexed_text_lookup number_of texts text None numbers is = by _ refl
         let both : Some place.0 ≡ None = sym ((numbers text place.0).1 place.1) ∙ sym is in
         absurd (cc)
 
+-- a change that changes no number leaves the texts their numbers
+pub AreTextNumbers-same : (old new : List ℕ → Option ℕ) (texts : List (List ℕ)) → AreTextNumbers old texts
+    → ((text : List ℕ) → new text ≡ old text) → AreTextNumbers new texts
+AreTextNumbers-same old new texts numbers same text n =
+    (λ e. (numbers text n).0 (sym (same text) ∙ e), λ e. same text ∙ (numbers text n).1 e)
+
+-- giving a text the number that it has changes no number
+pub same_text_number : (old new : List ℕ → Option ℕ) (text : List ℕ) (n : ℕ) → old text ≡ Some n
+    → ((other : List ℕ) → new other ≡ cond (bytes_eq text other) (Some n) (old other))
+    → (other : List ℕ) → new other ≡ old other
+same_text_number old new text n is sets other = by _ refl
+  where
+    by : (b : Bool) → bytes_eq text other ≡ b → new other ≡ old other
+    by true same =
+        sets other ∙ ap (λ b. cond b (Some n) (old other)) same ∙ sym is ∙ ap old ((bytes_eq-Decides text other).0 same)
+    by false differ = sets other ∙ ap (λ b. cond b (Some n) (old other)) differ
+
 -- a new text gets the next number
 pub AreTextNumbers-append : (old new : List ℕ → Option ℕ) (texts : List (List ℕ)) (text : List ℕ)
     → AreTextNumbers old texts → list_any (bytes_eq text) texts ≡ false

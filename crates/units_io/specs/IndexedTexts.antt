@@ -1,14 +1,8 @@
 -- Distinct texts, each numbered by its place.
-use Rattle.std.specs.Prelude.{◌≡◌, ◌-◌, ◌++◌, ◌∷◌, ◌↔◌, [], ℕ, List, Option, Some, Vec, min, if◌then◌else◌, slice_get}
-use Rattle.std.specs.Prelude.{vec_len, vec_capacity}
-use Rattle.std.specs.HashMap.{HashMap, get_by, spare}
+use Rattle.std.specs.Prelude.{◌≡◌, ◌++◌, ◌∷◌, ◌↔◌, [], ℕ, List, Option, Some, Vec, if◌then◌else◌, slice_get}
+use Rattle.std.specs.HashMap.{HashMap, get_by}
 use Rattle.std.specs.List.{list_any}
 use Rattle.std.specs.Str.{bytes_eq}
-
--- the texts, and the number of texts that can be added without an allocation
-pub record IndexedTexts : Type 0 where
-  pub texts : List (List ℕ)
-  pub spare : ℕ
 
 -- the texts with one more at the end, unless it is already among them
 abbrev pub with_indexed_text : List ℕ → List (List ℕ) → List (List ℕ)
@@ -22,7 +16,3 @@ module _ {Y S : Type 0} where
   -- the number of a text in a map
   abbrev pub text_number : HashMap (Vec ℕ Y) ℕ S → List ℕ → Option ℕ
   text_number numbers text = get_by (λ key. bytes_eq text key.items) numbers
-
-  -- the number of entries that can be added to both a map and a list
-  abbrev pub text_index_spare : HashMap (Vec ℕ Y) ℕ S → Vec (List ℕ) Y → ℕ
-  text_index_spare numbers texts = min (spare numbers) (vec_capacity texts - vec_len texts)

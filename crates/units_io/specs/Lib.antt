@@ -9,4 +9,6 @@ pub mod IndexedTexts
 pub mod Memory
 pub mod NamedValues
 pub mod Outcomes
+pub mod PackedTexts
 pub mod StoreResults
+pub mod StoredTexts

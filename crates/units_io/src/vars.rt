@@ -6,7 +6,7 @@ ghost use Rattle.units_io.specs.NamedValues.{HasDistinctTextNames};
 
 use crate::hash_seed::HashSeed;
 use crate::text::Text;
-use crate::text_index::{IndexText, TextIndex};
+use crate::text_index::TextIndex;
 use std::alloc::{AllocError, Global};
 use std::marker::Model;
 
@@ -64,14 +64,13 @@ impl Vars {
     }
 
     /// Appends a pair whose name is new: `value` must return `None` for it. On an error nothing changes.
-    pub fn push(&mut self, alloc: Global, item: (Text, Text)) -> Result<(), AllocError>
+    pub fn push(&mut self, _alloc: Global, item: (Text, Text)) -> Result<(), AllocError>
         requires { HasNoTextOfName self.old item.0 }
         ensures ok { OnOk result (self.new ≡ self.old ++ item ∷ []) }
         ensures err { OnErr result (self.new ≡ self.old) }
     {
         let (name, value) = item;
-        let name = IndexText::from_text(alloc, name)?;
-        self.names.reserve(1)?;
+        self.names.reserve(1, name.as_bytes().len())?;
         self.values.push(value)?;
         self.names.append(name);
         Ok(())
@@ -159,7 +158,9 @@ impl Vars {
     fn with_capacity(alloc: Global, len: usize, seed: HashSeed) -> Result<Vars, AllocError>
         ensures { IfOk result (λ vars. vars ≡ []) }
     {
-        let names = TextIndex::with_capacity(alloc, len, seed)?;
+        let mut names = TextIndex::new(alloc, seed);
+        // Each name makes room for its bytes when it is added.
+        names.reserve(len, 0)?;
         let values = Vec::with_capacity(alloc, len)?;
         Ok(Vars { names, values })
     }

@@ -10,25 +10,25 @@ pub append-requires-clause-new : goal.append-requires-clause-new
 append-requires-clause-new c =
     let names = c.self.inside.names.texts in
     let values = c.self.inside.values.items in
-    let none : HasNoTextOfName (zip names values) c.in_ok-name.name =
-    subst (λ (pairs : NamedTexts). HasNoTextOfName pairs c.in_ok-name.name) (sym c.self.view_is)
-    (subst (HasNoTextOfName c.args.self.now) (sym c.in_ok-name.ensures) c.requires) in
-    rw c.reserve.ensures.texts (names_any-HasNoTextOfName names values c.in_ok-name.name c.self.invariant.1 none)
+    let none : HasNoTextOfName (zip names values) c.args.item.0 =
+    subst (λ (pairs : NamedTexts). HasNoTextOfName pairs c.args.item.0) (sym c.self.view_is)
+    c.requires in
+    rw c.reserve.ensures.texts (names_any-HasNoTextOfName names values c.args.item.0 c.self.invariant.1 none)
 
 pub invariant_of-self-2 : goal.invariant_of-self-2
 invariant_of-self-2 c =
     let names = c.self.inside.names.texts in
     let values = c.self.inside.values.items in
-    let more_names : c.append.new.self.texts ≡ names ++ c.in_ok-name.name ∷ [] = search rules in
+    let more_names : c.append.new.self.texts ≡ names ++ c.args.item.0 ∷ [] = search rules in
     let more_values : c.push.new.self.items ≡ values ++ c.args.item.1 ∷ [] = search rules in
-    let none : HasNoTextOfName (zip names values) c.in_ok-name.name =
-    subst (λ (pairs : NamedTexts). HasNoTextOfName pairs c.in_ok-name.name) (sym c.self.view_is)
-    (subst (HasNoTextOfName c.args.self.now) (sym c.in_ok-name.ensures) c.requires) in (
+    let none : HasNoTextOfName (zip names values) c.args.item.0 =
+    subst (λ (pairs : NamedTexts). HasNoTextOfName pairs c.args.item.0) (sym c.self.view_is)
+    c.requires in (
       subst HasDistinctTextNames
           (sym (with_named_text-appended names values _ _ _ _ c.self.invariant.1 none more_names more_values))
-          (HasDistinctNames-with_value (zip names values) c.in_ok-name.name c.args.item.1 c.self.invariant.0),
+          (HasDistinctNames-with_value (zip names values) c.args.item.0 c.args.item.1 c.self.invariant.0),
       rw (more_names, more_values) (length-append values (c.args.item.1 ∷ []) ∙ ap (λ n. n + 1) c.self.invariant.1
-          ∙ sym (length-append names (c.in_ok-name.name ∷ []))),
+          ∙ sym (length-append names (c.args.item.0 ∷ []))),
     )
 
 pub returns-clause-ok : goal.returns-clause-ok
