@@ -17,7 +17,7 @@ ghost use Rattle.deck_lines.specs.Stores.{key_numbers_by_definition, store_defin
 ghost use Rattle.deck_lines.specs.declared.line.DeckLine.{DeckLine};
 
 use super::exchange::exchange;
-use super::key_numbers::{IndexKey, KeyNumbers};
+use super::key_numbers::KeyNumbers;
 use super::new_key_numbers::Renumbering;
 use crate::key_number::KeyNumber;
 use def_entry::{Key, What};
@@ -87,27 +87,22 @@ impl Definitions {
         }
     }
 
-    /// Makes room for the definition of one more line, and returns the definition as `put` needs it.
-    pub(crate) fn reserve_for(
-        &mut self,
-        alloc: Global,
-        definition: Option<(Key, What)>,
-    ) -> Result<Option<(IndexKey, What)>, AllocError>
+    /// Makes room for the definition of one more line.
+    pub(crate) fn reserve_for(&mut self, definition: &Option<(Key, What)>) -> Result<(), AllocError>
         ensures lines { self.new.of_lines.listed ≡ self.old.of_lines.listed }
         ensures names { key_number_names_in self.new.keys ≡ key_number_names_in self.old.keys }
-        ensures is { IfOk result (λ new. new ≡ definition) }
-        ensures room { IfOk result (λ new. HasRoomForStoreDefinition self.new new) }
+        ensures ok { OnOk result (HasRoomForStoreDefinition self.new definition.now) }
     {
         self.of_lines.reserve(1)?;
         match definition {
-            Some((key, what)) => Ok(Some((self.keys.reserve_for(alloc, key)?, what))),
-            None => Ok(None),
+            Some((key, _)) => self.keys.reserve_for(key),
+            None => Ok(()),
         }
     }
 
     /// Appends the definition of one more line, and returns the number of its key. A new key gets the next number of
     /// its kind. Allocates no memory.
-    pub(crate) fn put(&mut self, definition: Option<(IndexKey, What)>) -> Option<KeyNumber>
+    pub(crate) fn put(&mut self, definition: Option<(Key, What)>) -> Option<KeyNumber>
         requires room { HasRoomForStoreDefinition self.old definition }
         ensures lines { (said : List (Option (key_spec.Key × entries.Entry))) (line : List ℕ)
             → AreStoreDefinitionsOf self.old said

@@ -1,18 +1,18 @@
 //! Numbered keys.
 
-ghost use Rattle.std.specs.Prelude.{◌≡◌, ◌<◌, Some, false, length, slice_get, IfOk, OnOk, MatchOption};
+ghost use Rattle.std.specs.Prelude.{◌≡◌, Some, false, length, slice_get, OnOk, MatchOption};
 ghost use Rattle.std.specs.Option.{option_copied};
 ghost use Rattle.def_entry.specs.Keys.{key};
 ghost use Rattle.deck_lines.specs.Names.{is_key_numbered, key_number_names_of_kind, key_numbered, key_numbers_with_key};
 ghost use Rattle.deck_lines.specs.Names.{no_key_number_names};
-ghost use Rattle.deck_lines.specs.NumberedKeys.{key_number_names_in, spare_key_numbers_of_kind};
+ghost use Rattle.deck_lines.specs.NumberedKeys.{HasRoomForKeyNumber, key_number_names_in};
 
 use super::name_set::NameSet;
 use crate::key_number::KeyNumber;
 use def_entry::{Key, Kind};
 use std::alloc::{AllocError, Global};
 use std::marker::Model;
-use units_io::{HashSeed, IndexText};
+use units_io::HashSeed;
 
 /// Numbered keys, one table for each kind.
 pub(crate) struct KeyNumbers {
@@ -79,36 +79,28 @@ impl KeyNumbers {
         self.of_kind(kind).len()
     }
 
-    /// Makes room for a key, and returns it as `put` needs it.
-    pub fn reserve_for(&mut self, alloc: Global, key: Key) -> Result<IndexKey, AllocError>
+    /// Makes room for a key.
+    pub fn reserve_for(&mut self, key: &Key) -> Result<(), AllocError>
         ensures names { key_number_names_in self.new ≡ key_number_names_in self.old }
-        ensures is { IfOk result (λ new. new ≡ key) }
-        ensures room { IfOk result (λ new. 0 < spare_key_numbers_of_kind self.new new.kind) }
+        ensures ok { OnOk result (HasRoomForKeyNumber self.new key.now) }
     {
-        self.reserve_one(key.kind)?;
-        IndexKey::new(alloc, key)
-    }
-
-    // Makes room for one more key of this kind.
-    fn reserve_one(&mut self, kind: Kind) -> Result<(), AllocError>
-        ensures names { key_number_names_in self.new ≡ key_number_names_in self.old }
-        ensures ok { OnOk result (0 < spare_key_numbers_of_kind self.new kind) }
-    {
-        match kind {
-            Kind::Unit => self.units.reserve_one(),
-            Kind::Prefix => self.prefixes.reserve_one(),
-            Kind::Func => self.functions.reserve_one(),
-            Kind::List => self.lists.reserve_one(),
+        let len = key.name.as_bytes().len();
+        match key.kind {
+            Kind::Unit => self.units.reserve_one(len),
+            Kind::Prefix => self.prefixes.reserve_one(len),
+            Kind::Func => self.functions.reserve_one(len),
+            Kind::List => self.lists.reserve_one(len),
         }
     }
 
     /// Gives a key the next number of its kind, unless it has a number, and returns its number. Allocates no memory.
-    pub fn put(&mut self, key: IndexKey) -> KeyNumber
-        requires { 0 < spare_key_numbers_of_kind self.old key.kind }
+    pub fn put(&mut self, key: Key) -> KeyNumber
+        requires { HasRoomForKeyNumber self.old key }
         ensures names { key_number_names_in self.new ≡ key_numbers_with_key (key_number_names_in self.old) key }
         ensures number { key_numbered (key_number_names_in self.new) result ≡ Some key }
     {
-        let (kind, name) = key.into_parts();
+        let kind = key.kind;
+        let name = key.into_name();
         let number = match kind {
             Kind::Unit => self.units.put(name),
             Kind::Prefix => self.prefixes.put(name),
@@ -120,7 +112,7 @@ impl KeyNumbers {
 
     // Returns the table of names of a kind.
     fn of_kind(&self, kind: Kind) -> &NameSet
-        ensures { result.now.names ≡ key_number_names_of_kind (key_number_names_in self.now) kind }
+        ensures { result.now.texts ≡ key_number_names_of_kind (key_number_names_in self.now) kind }
     {
         match kind {
             Kind::Unit => &self.units,
@@ -128,46 +120,5 @@ impl KeyNumbers {
             Kind::Func => &self.functions,
             Kind::List => &self.lists,
         }
-    }
-}
-
-/// A key with the copies of its name that a table keeps, so that adding it allocates nothing.
-pub(crate) struct IndexKey {
-    kind: Kind,
-    name: IndexText,
-}
-
-// Written by hand, so that code that drops a key need not prove anything about its contents.
-impl Drop for IndexKey {
-    fn drop(self) {
-        let IndexKey { kind: _, name: _ } = self;
-    }
-}
-
-impl Model for IndexKey {
-    ghost use Rattle.def_entry.specs.Keys.{key};
-    ghost use Rattle.def_entry.specs.declared.key.Key.{Key};
-
-    ghost Value = { Key };
-
-    ghost view = { λ k. key k.kind k.name };
-}
-
-impl IndexKey {
-    // Creates a key from this key and a copy of its name.
-    fn new(alloc: Global, key: Key) -> Result<IndexKey, AllocError>
-        ensures { IfOk result (λ new. new ≡ key) }
-    {
-        let kind = key.kind;
-        let name = IndexText::from_text(alloc, key.into_name())?;
-        Ok(IndexKey { kind, name })
-    }
-
-    // Returns the kind and the copies of the name.
-    fn into_parts(self) -> (Kind, IndexText)
-        ensures { key result.0 result.1 ≡ self }
-    {
-        let IndexKey { kind, name } = self;
-        (kind, name)
     }
 }

@@ -135,7 +135,7 @@ impl LineStore {
             ≡ option_map (λ d. Some d.0) (entry_in_store_line (store_line_with_mark mark line))) }
         ensures err { OnErr result (self.new ≡ self.old) }
     {
-        let definition = self.definitions.reserve_for(alloc, definition)?;
+        self.definitions.reserve_for(&definition)?;
         self.lines.push(alloc, line, mark)?;
         Ok(self.definitions.put(definition))
     }

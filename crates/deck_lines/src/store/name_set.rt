@@ -1,14 +1,15 @@
 //! Numbered names.
 
-ghost use Rattle.std.specs.Prelude.{◌≡◌, ◌<◌, [], Some, false, length, slice_get, MatchOption, OnOk};
+ghost use Rattle.std.specs.Prelude.{◌≡◌, [], Some, false, length, slice_get, MatchOption, OnOk};
 ghost use Rattle.std.specs.List.{list_any};
 ghost use Rattle.std.specs.Option.{option_copied};
 ghost use Rattle.std.specs.Str.{bytes_eq};
+ghost use Rattle.units_io.specs.StoredTexts.{HasTextRoom};
 ghost use Rattle.deck_lines.specs.Names.{key_number_names_with_name};
 
 use std::alloc::{AllocError, Global};
 use std::marker::Model;
-use units_io::{HashSeed, IndexText, TextIndex};
+use units_io::{HashSeed, Text, TextIndex};
 
 /// A set of names. Each name is numbered by how many names were added before it.
 pub(crate) struct NameSet {
@@ -29,11 +30,12 @@ impl Drop for NameSet {
 }
 
 impl Model for NameSet {
-    ghost use Rattle.deck_lines.specs.NumberedNames.{AreKeyNamesUpTo, NumberedKeyNames};
+    ghost use Rattle.units_io.specs.StoredTexts.{StoredTexts};
+    ghost use Rattle.deck_lines.specs.NumberedNames.{AreKeyNamesUpTo};
 
-    ghost Value = { NumberedKeyNames };
+    ghost Value = { StoredTexts };
 
-    ghost view = { λ s. record { names = s.names.texts; spare_names = s.names.spare } };
+    ghost view = { λ s. s.names };
 
     ghost invariant = { λ s. AreKeyNamesUpTo s.longest s.names.texts };
 }
@@ -41,7 +43,7 @@ impl Model for NameSet {
 impl NameSet {
     /// Returns an empty set. `seed` is the hash seed of its table.
     pub fn new(alloc: Global, seed: HashSeed) -> NameSet
-        ensures { result.names ≡ [] }
+        ensures { result.texts ≡ [] }
     {
         NameSet {
             names: TextIndex::new(alloc, seed),
@@ -56,7 +58,7 @@ impl NameSet {
 
     /// Returns the number of names.
     pub fn len(&self) -> usize
-        ensures { result ≡ length self.now.names }
+        ensures { result ≡ length self.now.texts }
     {
         self.names.len()
     }
@@ -64,8 +66,8 @@ impl NameSet {
     /// Returns the number of a name, or `None` if the set does not have it.
     pub fn number_of(&self, name: &[u8]) -> Option<usize>
         ensures { MatchOption result
-            (list_any (bytes_eq name.now) self.now.names ≡ false)
-            (λ number. slice_get self.now.names number ≡ Some name.now) }
+            (list_any (bytes_eq name.now) self.now.texts ≡ false)
+            (λ number. slice_get self.now.texts number ≡ Some name.now) }
     {
         if self.longest < name.len() {
             return None;
@@ -75,24 +77,24 @@ impl NameSet {
 
     /// Returns the name with this number, or `None` if there is no such name.
     pub fn name(&self, number: usize) -> Option<&[u8]>
-        ensures { option_copied result ≡ slice_get self.now.names number }
+        ensures { option_copied result ≡ slice_get self.now.texts number }
     {
         self.names.text(number)
     }
 
-    /// Makes room for one more name.
-    pub fn reserve_one(&mut self) -> Result<(), AllocError>
-        ensures names { self.new.names ≡ self.old.names }
-        ensures ok { OnOk result (0 < self.new.spare_names) }
+    /// Makes room for one more name of `len` bytes.
+    pub fn reserve_one(&mut self, len: usize) -> Result<(), AllocError>
+        ensures names { self.new.texts ≡ self.old.texts }
+        ensures ok { OnOk result (HasTextRoom len self.new) }
     {
-        self.names.reserve(1)
+        self.names.reserve(1, len)
     }
 
     /// Gives a name the next number, unless it has a number, and returns its number. Allocates no memory.
-    pub fn put(&mut self, name: IndexText) -> usize
-        requires { 0 < self.old.spare_names }
-        ensures names { self.new.names ≡ key_number_names_with_name name self.old.names }
-        ensures number { slice_get self.new.names result ≡ Some name }
+    pub fn put(&mut self, name: Text) -> usize
+        requires { HasTextRoom (length name) self.old }
+        ensures names { self.new.texts ≡ key_number_names_with_name name self.old.texts }
+        ensures number { slice_get self.new.texts result ≡ Some name }
     {
         self.longest = self.longest.max(name.as_bytes().len());
         self.names.put(name)

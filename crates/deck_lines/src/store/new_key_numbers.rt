@@ -87,6 +87,7 @@ fn number_line(
     };
     let kind = number.kind;
     let name = Text::from_bytes(alloc, name)?;
-    let key = keys.reserve_for(alloc, Key { kind, name })?;
+    let key = Key { kind, name };
+    keys.reserve_for(&key)?;
     Ok(Some(keys.put(key)))
 }

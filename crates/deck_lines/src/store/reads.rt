@@ -54,7 +54,7 @@ fn definition_of(
         return Ok(None);
     }
     match read_line(alloc, line.text.as_bytes())? {
-        Reading::Defines(key, what) => Ok(Some(number_definition(alloc, keys, key, what)?)),
+        Reading::Defines(key, what) => Ok(Some(number_definition(keys, key, what)?)),
         Reading::Stands(_) => Ok(None),
         Reading::Includes(_) => Ok(None),
         Reading::Faulty(_) => Ok(None),
@@ -62,19 +62,14 @@ fn definition_of(
 }
 
 // Returns a definition with the number of its key. A key without a number gets the next number of its kind.
-fn number_definition(
-    alloc: Global,
-    keys: &mut KeyNumbers,
-    key: Key,
-    what: What,
-) -> Result<Definition, AllocError>
+fn number_definition(keys: &mut KeyNumbers, key: Key, what: What) -> Result<Definition, AllocError>
     ensures extended { AreKeyNumbersExtended (key_number_names_in keys.old) (key_number_names_in keys.new) }
     ensures unique { AreKeyNumbersOneToOne (key_number_names_in keys.old)
         → AreKeyNumbersOneToOne (key_number_names_in keys.new) }
     ensures ok { IfOk result (λ d. seen_store_definition (key_number_names_in keys.new) d
         ≡ (Some key, entry_definition_view what)) }
 {
-    let key = keys.reserve_for(alloc, key)?;
+    keys.reserve_for(&key)?;
     let key = keys.put(key);
     Ok(Definition { key, what })
 }
