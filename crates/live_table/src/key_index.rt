@@ -10,7 +10,7 @@ use crate::stored_keys::{StoredKey, kind_of_byte, overwrite, store};
 use def_entry::{Key, Kind};
 use std::alloc::{AllocError, Global};
 use std::marker::Model;
-use units_io::{HashSeed, IndexText, Text, TextIndex};
+use units_io::{HashSeed, Text, TextIndex};
 
 /// Keys in insertion order. The number of a key is the number of keys before it.
 pub(crate) struct KeyIndex {
@@ -133,11 +133,11 @@ impl KeyIndex {
         Ok(Key { kind, name })
     }
 
-    /// Makes room for `more` further keys.
+    /// Makes room for `more` further keys. Each of them makes room for its bytes when it is added.
     pub(crate) fn reserve(&mut self, more: usize) -> Result<(), AllocError>
         ensures { self.new ≡ self.old }
     {
-        self.keys.reserve(more)
+        self.keys.reserve(more, 0)
     }
 
     /// Returns the number of a key, and adds the key with the next number if it has none. Allocates no memory for a key
@@ -173,8 +173,8 @@ impl KeyIndex {
     {
         // Makes room for later lookups of the key.
         overwrite(&mut self.wanted, kind, name)?;
-        let bytes = IndexText::new(alloc, &self.wanted)?;
-        self.keys.reserve(1)?;
+        let bytes = Text::from_bytes(alloc, &self.wanted)?;
+        self.keys.reserve(1, bytes.as_bytes().len())?;
         Ok(self.keys.put(bytes))
     }
 }
