@@ -1,2 +1,4 @@
 mod AllRecords
 pub mod AsBox
+mod EditOutcomes
+mod Replied

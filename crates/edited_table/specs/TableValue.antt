@@ -1,8 +1,11 @@
 -- The value of an edited table in contracts.
-use Rattle.std.specs.Prelude.{[], refl}
+use Rattle.std.specs.Prelude.{◌≡◌, [], Result, Ok, refl}
 use Rattle.std.specs.Coded.{Coded, code_by, coded×}
 use Rattle.std.specs.FinMap as map_of
 use Rattle.deck.specs.Decks.{DeckContents}
+use Rattle.deck.specs.Tables.{table_of_deck}
+use Rattle.deck.specs.declared.fault.DeckFault.{DeckFault}
+use Rattle.def_entry.specs.Tables.{EntryTable}
 use Rattle.edit_history.specs.Histories.{UndoStacks}
 use Rattle.edit_history.specs.contracts.history.History as history
 use Rattle.live_table.specs.TableView.{LiveView}
@@ -27,3 +30,15 @@ edited_table_without_edits deck =
       history =
           record { done_steps = []; undone = [] };
     }
+
+-- the table is over the deck of this outcome, with no name settled and no edit made
+abbrev pub IsTableLoaded : Result DeckContents DeckFault → EditedTableView → Type 0
+IsTableLoaded outcome e = (outcome ≡ Ok e.table.deck) × (e ≡ edited_table_without_edits e.table.deck)
+
+-- the table of definitions that queries use
+abbrev pub c_query_table : EditedTableView → EntryTable
+c_query_table e = table_of_deck e.table.deck
+
+-- the part of a table that only edits change
+abbrev pub c_definitions_of : EditedTableView → DeckContents × UndoStacks
+c_definitions_of e = (e.table.deck, e.history)

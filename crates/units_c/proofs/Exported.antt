@@ -5,12 +5,13 @@ use Rattle.std.specs.declared.alloc.AllocError.{AllocError}
 use Rattle.deck.specs.Decks.{DeckContents}
 use Rattle.edit_history.specs.Histories.{UndoStacks}
 use Rattle.edited_table.specs.TableValue.{EditedTableView}
-use Rattle.units_c.specs.Answers.{IsAnswerHandedToC}
-use Rattle.units_c.specs.Edits.{IsAnsweredCEdit, NotesCEdit}
-use Rattle.units_c.specs.Statuses.{status_code}
-use Rattle.units_c.specs.Turns.{IsAnsweredCTurn, TurnsCTable}
-use Rattle.units_c.specs.declared.answer.Answer.{Answer}
-use Rattle.units_c.specs.declared.status.Status.TheVariants as status
+use Rattle.units_c.specs.Delivery.{IsAnswerHandedToC}
+use Rattle.edited_table.specs.EditAnswers.{IsAnsweredCEdit}
+use Rattle.units_c.specs.Edits.{NotesCEdit, TurnsCTable}
+use Rattle.edited_table.specs.Statuses.{status_code}
+use Rattle.edited_table.specs.TurnAnswers.{IsAnsweredCTurn}
+use Rattle.edited_table.specs.declared.answer.Answer.{Answer}
+use Rattle.edited_table.specs.declared.status.Status.TheVariants as status
 
 -- a call whose result is `Done` has an answer with the status `Done`; the text of the answer has `n` bytes
 c_call_is_done : (n room result s : ℕ) → (n ≤ room → result ≡ s) → (room < n → result ≡ 2) → result ≡ 0

@@ -1,4 +1,2 @@
-mod EditOutcomes
 mod Exported
 mod Held
-mod Replied

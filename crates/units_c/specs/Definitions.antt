@@ -3,14 +3,13 @@ use Rattle.std.specs.Prelude.{◌≡◌, ◌≢◌, [], ◌∷◌, ℕ, List, Op
 use Rattle.deck.specs.Decks.{DeckContents}
 use Rattle.deck.specs.FileLoads.{deck_after_loading}
 use Rattle.deck.specs.declared.fault.DeckFault.{DeckFault}
-use Rattle.deck.specs.declared.fault.DeckFault.TheVariants as fault
 use Rattle.deck.specs.declared.settings.Settings.{Settings}
-use Rattle.edited_table.specs.TableValue.{EditedTableView, edited_table_without_edits}
-use Rattle.units_c.specs.Statuses.{status_code}
+use Rattle.edited_table.specs.Faults.{load_status}
+use Rattle.edited_table.specs.Statuses.{status_code}
+use Rattle.edited_table.specs.TableValue.{EditedTableView, IsTableLoaded}
+use Rattle.edited_table.specs.declared.status.Status.TheVariants as status
 use Rattle.units_c.specs.declared.definitions.UnitsDefinitions.{UnitsDefinitions}
 use Rattle.units_c.specs.declared.definitions.UnitsEntry.{UnitsEntry}
-use Rattle.units_c.specs.declared.status.Status.{Status}
-use Rattle.units_c.specs.declared.status.Status.TheVariants as status
 use Rattle.units_io.specs.FileMap.{FileMap, no_files_in_map, with_file}
 use Rattle.units_io.specs.NamedValues.{NamedTexts, with_named_text}
 
@@ -32,18 +31,10 @@ abbrev pub c_deck_of_files : UnitsDefinitions → Result DeckContents DeckFault
 c_deck_of_files d = deck_after_loading (c_files_with_entries no_files_in_map d.files.now) d.main.now
     (c_definition_settings d)
 
--- the status of a load that failed with this fault
-abbrev pub load_status : DeckFault → Status
-load_status fault.Absent = status.NoSuchFile
-load_status fault.TooLong = status.FileTooLong
-load_status fault.ReadFailed = status.ReadFailed
-load_status fault.DeckFull = status.DeckFull
-load_status _ = status.NoMemory
-
 -- the table is open over these definitions, with no name settled and no edit made
 abbrev pub IsCTableOpened : UnitsDefinitions → Option EditedTableView → Type 0
 IsCTableOpened d None = ⊥
-IsCTableOpened d (Some e) = (c_deck_of_files d ≡ Ok e.table.deck) × (e ≡ edited_table_without_edits e.table.deck)
+IsCTableOpened d (Some e) = IsTableLoaded (c_deck_of_files d) e
 
 -- the status of opening a closed table over a deck with this outcome: the status of the outcome, `NoMemory` or
 -- `ReadFailed`

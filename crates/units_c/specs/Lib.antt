@@ -1,12 +1,7 @@
-pub mod Answers
 pub mod Columns
 pub mod Definitions
+pub mod Delivery
 pub mod Edits
-pub mod Faults
 pub mod Numbers
 pub mod Options
-pub mod Statuses
 pub mod Tables
-pub mod Turns
-pub mod ValueOptions
-pub mod Words

@@ -1,26 +1,14 @@
 -- The tables that C holds, and the answers of calls on them.
 use Rattle.std.specs.Prelude.{◌≡◌, ◌≢◌, ℕ, List, Option, Some, None, option_map}
-use Rattle.deck.specs.Decks.{DeckContents}
-use Rattle.deck.specs.Tables.{table_of_deck}
-use Rattle.def_entry.specs.Tables.{EntryTable}
-use Rattle.edit_history.specs.Histories.{UndoStacks}
-use Rattle.edited_table.specs.TableValue.{EditedTableView}
-use Rattle.units_c.specs.Answers.{IsAnswerHandedToC}
-use Rattle.units_c.specs.Statuses.{status_code}
-use Rattle.units_c.specs.declared.answer.Answer.{Answer}
-use Rattle.units_c.specs.declared.status.Status.TheVariants as status
+use Rattle.edited_table.specs.Statuses.{status_code}
+use Rattle.edited_table.specs.TableValue.{EditedTableView, c_definitions_of}
+use Rattle.edited_table.specs.declared.answer.Answer.{Answer}
+use Rattle.edited_table.specs.declared.status.Status.TheVariants as status
+use Rattle.units_c.specs.Delivery.{IsAnswerHandedToC}
 
 -- the state of an open table; a table in any other state is closed
 abbrev pub c_table_open_mark : ℕ
 c_table_open_mark = 1970170228
-
--- the table of definitions that queries use
-abbrev pub c_query_table : EditedTableView → EntryTable
-c_query_table e = table_of_deck e.table.deck
-
--- the part of a table that only edits change
-abbrev pub c_definitions_of : EditedTableView → DeckContents × UndoStacks
-c_definitions_of e = (e.table.deck, e.history)
 
 -- a call on an open table delivers this answer unless memory runs out; on a closed table its result is `Closed`
 abbrev pub IsCTableAnswered : Option EditedTableView → (EditedTableView → Answer) → (room result written : ℕ)

@@ -1,20 +1,19 @@
 //! Conversion of one column of a text of records.
 
-ghost use Rattle.std.specs.Prelude.{◌≡◌, ◌≤◌, IfOk, IfSome, None, length};
-ghost use Rattle.reply.specs.Options.{AreReplyOptionsPrintable};
+ghost use Rattle.std.specs.Prelude.{◌≡◌, ◌≤◌, IfSome, None, length};
+ghost use Rattle.edited_table.specs.Statuses.{status_code};
+ghost use Rattle.edited_table.specs.TableValue.{c_query_table};
+ghost use Rattle.edited_table.specs.declared.status.Status.TheVariants as statuses;
 ghost use Rattle.units_c.specs.Columns as spec;
 ghost use Rattle.units_c.specs.Options.{c_reply_options};
-ghost use Rattle.units_c.specs.Statuses.{status_code};
-ghost use Rattle.units_c.specs.Tables.{IsCTableAnswered, IsCTableUnedited, c_definitions_of, c_query_table};
-ghost use Rattle.units_c.specs.declared.status.Status.TheVariants as statuses;
+ghost use Rattle.units_c.specs.Tables.{IsCTableAnswered, IsCTableUnedited};
 
-use crate::answer::{Answer, deliver};
+use crate::delivery::deliver;
 use crate::options::UnitsOptions;
-use crate::status::Status;
 use crate::unit_table::UnitsTable;
-use edited_table::{Column, EditedTable};
-use reply::{Options, Question};
-use std::alloc::{AllocError, Global};
+use edited_table::{Column, Status, answer_column};
+use reply::Question;
+use std::alloc::Global;
 
 /// A column of a text of records, and the units that its fields are converted from and to.
 #[repr(C)]
@@ -56,49 +55,16 @@ pub extern "C" fn units_convert_column(
     let Some(mut content) = table.take(alloc) else {
         return Status::Closed.code();
     };
-    let answered = answer_column(alloc, &mut content, &options, column, text);
-    table.put(content);
-    deliver(answered, out, written)
-}
-
-// Converts a column and returns the answer.
-fn answer_column(
-    alloc: Global,
-    content: &mut EditedTable,
-    options: &Options,
-    column: &UnitsColumn<'_>,
-    text: &[u8],
-) -> Result<Answer, AllocError>
-    requires printable { AreReplyOptionsPrintable options.now }
-    requires number { 1 ≤ column.now.number }
-    ensures answer { IfOk result (λ answer.
-        answer ≡ spec.c_column_answer (c_query_table content.old) options.now column.now text.now) }
-    ensures unedited { c_definitions_of content.new ≡ c_definitions_of content.old }
-{
-    let question = Question {
-        options,
-        from: column.from,
-        to: column.to,
-    };
     let column = Column {
-        question,
+        question: Question {
+            options: &options,
+            from: column.from,
+            to: column.to,
+        },
         number: column.number,
         has_header: column.header != 0,
     };
-    let block = content.convert_column(alloc, &column, text)?;
-    Ok(Answer {
-        status: rows_status(block.refused),
-        text: block.text,
-    })
-}
-
-// Returns the status of rows, given whether a cell is an error.
-fn rows_status(refused: bool) -> Status
-    ensures { result ≡ spec.rows_status refused }
-{
-    if refused {
-        Status::CellError
-    } else {
-        Status::Done
-    }
+    let answered = answer_column(alloc, &mut content, &column, text);
+    table.put(content);
+    deliver(answered, out, written)
 }

@@ -1,21 +1,18 @@
 //! Conversions.
 
-ghost use Rattle.std.specs.Prelude.{◌≡◌, IfOk, IfSome, None, length};
-ghost use Rattle.reply.specs.Options.{AreReplyOptionsPrintable};
-ghost use Rattle.units_c.specs.Answers as spec;
+ghost use Rattle.std.specs.Prelude.{◌≡◌, IfSome, None, length};
+ghost use Rattle.edited_table.specs.Answers as spec;
+ghost use Rattle.edited_table.specs.Statuses.{status_code};
+ghost use Rattle.edited_table.specs.TableValue.{c_query_table};
+ghost use Rattle.edited_table.specs.declared.status.Status.TheVariants as statuses;
 ghost use Rattle.units_c.specs.Options.{c_reply_options};
-ghost use Rattle.units_c.specs.Statuses.{status_code};
-ghost use Rattle.units_c.specs.Tables.{IsCTableAnswered, IsCTableUnedited, c_definitions_of, c_query_table};
-ghost use Rattle.units_c.specs.declared.status.Status.TheVariants as statuses;
+ghost use Rattle.units_c.specs.Tables.{IsCTableAnswered, IsCTableUnedited};
 
-use crate::answer::{Answer, deliver, reply_answer};
-use crate::laws::statuses_law;
+use crate::delivery::deliver;
 use crate::options::UnitsOptions;
-use crate::status::Status;
 use crate::unit_table::UnitsTable;
-use edited_table::EditedTable;
-use reply::Options;
-use std::alloc::{AllocError, Global};
+use edited_table::{Status, answer_conversion};
+use std::alloc::Global;
 
 /// Converts `from` to `to`. Copies the reply of the program to `out` and stores its length in `written`. Returns the
 /// status code.
@@ -45,22 +42,4 @@ pub extern "C" fn units_convert(
     let answered = answer_conversion(alloc, &mut content, &options, from, to);
     table.put(content);
     deliver(answered, out, written)
-}
-
-// Makes a conversion and returns the answer.
-fn answer_conversion(
-    alloc: Global,
-    content: &mut EditedTable,
-    options: &Options,
-    from: &[u8],
-    to: &[u8],
-) -> Result<Answer, AllocError>
-    requires { AreReplyOptionsPrintable options.now }
-    ensures answer { IfOk result (λ answer.
-        answer ≡ spec.c_conversion_answer (c_query_table content.old) options.now from.now to.now) }
-    ensures unedited { c_definitions_of content.new ≡ c_definitions_of content.old }
-{
-    statuses_law();
-    let reply = content.convert(alloc, options, from, to)?;
-    Ok(reply_answer(reply))
 }

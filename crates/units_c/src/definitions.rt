@@ -1,11 +1,11 @@
 //! Definitions that C passes in: files in memory, variables and a locale.
 
-ghost use Rattle.std.specs.Prelude.{◌≡◌, IfOk, OnOk};
-ghost use Rattle.deck.specs.FileLoads.{IsDeckLoaded};
+ghost use Rattle.std.specs.Prelude.{◌≡◌, ◌⊎◌, Err, IfOk, MatchResult, OnOk, Some};
+ghost use Rattle.deck.specs.FileLoads.{MayDeckLoadFailWith};
 ghost use Rattle.units_c.specs.Definitions as spec;
-ghost use Rattle.units_io.specs.FileMap.{no_files_in_map};
 
-use deck::{Deck, DeckFault, Settings, transcripts_determine_loads};
+use deck::{DeckFault, Settings};
+use edited_table::{EditedTable, load_table};
 use std::alloc::{AllocError, Global};
 use units_io::{HashSeed, MemFiles, Text, Vars};
 
@@ -32,18 +32,19 @@ pub struct UnitsDefinitions<'a> {
     pub seed: &'a [u8],
 }
 
-/// Loads the deck of the main file and of the files that it includes.
-pub(crate) fn read_deck(
+/// Allocates a table over the definitions.
+pub(crate) fn read_table(
     alloc: Global,
     definitions: &UnitsDefinitions<'_>,
-) -> Result<Deck, DeckFault>
-    ensures { IsDeckLoaded (spec.c_deck_of_files definitions.now) result }
+) -> Result<Box<EditedTable, Global>, DeckFault>
+    ensures { MatchResult result
+        (λ content. spec.IsCTableOpened definitions.now (Some content.value))
+        (λ fault. MayDeckLoadFailWith fault ⊎ (spec.c_deck_of_files definitions.now ≡ Err fault)) }
 {
     let mut files = MemFiles::new(alloc, &[])?;
     put_files(alloc, &mut files, definitions.files)?;
     let settings = read_settings(alloc, definitions)?;
-    transcripts_determine_loads::<MemFiles>();
-    Deck::load(alloc, &mut files, definitions.main, settings)
+    load_table(alloc, &mut files, definitions.main, settings)
 }
 
 // Returns the settings in `definitions`.

@@ -1,16 +1,15 @@
 //! Searches.
 
-ghost use Rattle.std.specs.Prelude.{◌≡◌, IfOk, length};
+ghost use Rattle.std.specs.Prelude.{length};
+ghost use Rattle.edited_table.specs.TableValue.{c_query_table};
+ghost use Rattle.edited_table.specs.declared.status.Status.TheVariants as statuses;
 ghost use Rattle.survey.specs.Searches.{search_report as report};
-ghost use Rattle.units_c.specs.Tables.{IsCTableAnswered, IsCTableUnedited, c_query_table};
-ghost use Rattle.units_c.specs.declared.status.Status.TheVariants as statuses;
+ghost use Rattle.units_c.specs.Tables.{IsCTableAnswered, IsCTableUnedited};
 
-use crate::answer::{Answer, deliver};
-use crate::status::Status;
+use crate::delivery::deliver;
 use crate::unit_table::UnitsTable;
-use edited_table::EditedTable;
-use std::alloc::{AllocError, Global};
-use survey::search_report;
+use edited_table::{Status, answer_search};
+use std::alloc::Global;
 
 /// Lists the definitions whose names contain `text`, one per line, as `search` does in a session. Returns the status
 /// code.
@@ -34,14 +33,4 @@ pub extern "C" fn units_search(
     let answered = answer_search(alloc, &content, text);
     table.put(content);
     deliver(answered, out, written)
-}
-
-// Searches and returns the answer.
-fn answer_search(alloc: Global, content: &EditedTable, text: &[u8]) -> Result<Answer, AllocError>
-    ensures { IfOk result (λ answer.
-        answer ≡ record { status = statuses.Done; text = report (c_query_table content.now) text.now }) }
-{
-    let text = search_report(alloc, content.table(), text)?;
-    let status = Status::Done;
-    Ok(Answer { status, text })
 }

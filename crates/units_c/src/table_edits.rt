@@ -4,16 +4,15 @@ ghost use Rattle.std.specs.Prelude.{◌≡◌, [], codes, length};
 ghost use Rattle.def_lines.specs.Blanks.{trimmed_of_blanks};
 ghost use Rattle.deck.specs.Edits.{deck_after_defining};
 ghost use Rattle.def_entry.specs.Keys.{key_of_spelling};
+ghost use Rattle.edited_table.specs.EditAnswers as answers;
+ghost use Rattle.edited_table.specs.TurnAnswers as turns;
+ghost use Rattle.edited_table.specs.declared.status.Status.TheVariants as statuses;
 ghost use Rattle.units_c.specs.Edits as spec;
 ghost use Rattle.units_c.specs.Tables.{IsCTableAnswered};
-ghost use Rattle.units_c.specs.Turns as turns;
-ghost use Rattle.units_c.specs.declared.status.Status.TheVariants as statuses;
 
-use crate::answer::deliver;
-use crate::edit_answer::{answer_define, answer_drop};
-use crate::status::Status;
-use crate::turn_answer::{answer_redo, answer_undo};
+use crate::delivery::deliver;
 use crate::unit_table::UnitsTable;
+use edited_table::{Status, answer_define, answer_drop, answer_redo, answer_undo};
 use std::alloc::Global;
 
 /// Adds the definition in `line`, as `:define` does in a session. Returns the status code. If the edit is refused,
@@ -27,10 +26,10 @@ pub extern "C" fn units_define(
     written: &mut usize,
 ) -> u32
     ensures answer { IsCTableAnswered table.old.handle.held
-        (λ e. spec.c_table_edit_answer (deck_after_defining (trimmed_of_blanks line.now) e.table.deck) [])
+        (λ e. answers.c_table_edit_answer (deck_after_defining (trimmed_of_blanks line.now) e.table.deck) [])
         (length out.old) result written.new out.new }
     ensures edited { spec.LeavesCDeck result
-        (λ deck. spec.c_deck_after_edit (deck_after_defining (trimmed_of_blanks line.now) deck) deck)
+        (λ deck. answers.c_deck_after_edit (deck_after_defining (trimmed_of_blanks line.now) deck) deck)
         table.old.handle.held table.new.handle.held }
     ensures noted { spec.NotesCEdit result table.old.handle.held table.new.handle.held }
 {
@@ -54,10 +53,10 @@ pub extern "C" fn units_drop(
     written: &mut usize,
 ) -> u32
     ensures answer { IsCTableAnswered table.old.handle.held
-        (λ e. spec.c_drop_answer (spec.c_drop_outcome (key_of_spelling key.now) e.table.deck) key.now)
+        (λ e. answers.c_drop_answer (answers.c_drop_outcome (key_of_spelling key.now) e.table.deck) key.now)
         (length out.old) result written.new out.new }
     ensures edited { spec.LeavesCDeck result
-        (λ deck. spec.c_deck_after_drop (spec.c_drop_outcome (key_of_spelling key.now) deck) deck)
+        (λ deck. answers.c_deck_after_drop (answers.c_drop_outcome (key_of_spelling key.now) deck) deck)
         table.old.handle.held table.new.handle.held }
     ensures noted { spec.NotesCEdit result table.old.handle.held table.new.handle.held }
 {
@@ -81,7 +80,7 @@ pub extern "C" fn units_undo(
     ensures answer { IsCTableAnswered table.old.handle.held
         (λ e. turns.c_turn_answer statuses.NothingToUndo (codes "nothing to undo") e.history.done_steps)
         (length out.old) result written.new out.new }
-    ensures undone { turns.TurnsCTable turns.IsCEditUndone result table.old.handle.held table.new.handle.held }
+    ensures undone { spec.TurnsCTable turns.IsCEditUndone result table.old.handle.held table.new.handle.held }
 {
     *written = 0;
     let Some(mut content) = table.take(alloc) else {
@@ -103,7 +102,7 @@ pub extern "C" fn units_redo(
     ensures answer { IsCTableAnswered table.old.handle.held
         (λ e. turns.c_turn_answer statuses.NothingToRedo (codes "nothing to redo") e.history.undone)
         (length out.old) result written.new out.new }
-    ensures redone { turns.TurnsCTable turns.IsCEditRedone result table.old.handle.held table.new.handle.held }
+    ensures redone { spec.TurnsCTable turns.IsCEditRedone result table.old.handle.held table.new.handle.held }
 {
     *written = 0;
     let Some(mut content) = table.take(alloc) else {

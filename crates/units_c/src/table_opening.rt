@@ -1,16 +1,13 @@
 //! Opening and closing tables.
 
-ghost use Rattle.std.specs.Prelude.{◌≡◌, ◌≢◌, Some, None, Err, ◌⊎◌, MatchResult};
-ghost use Rattle.deck.specs.FileLoads.{MayDeckLoadFailWith};
+ghost use Rattle.std.specs.Prelude.{◌≡◌, ◌≢◌, None};
+ghost use Rattle.edited_table.specs.Statuses.{status_code};
+ghost use Rattle.edited_table.specs.declared.status.Status.TheVariants as statuses;
 ghost use Rattle.units_c.specs.Definitions as spec;
-ghost use Rattle.units_c.specs.Statuses.{status_code};
-ghost use Rattle.units_c.specs.declared.status.Status.TheVariants as statuses;
 
-use crate::definitions::{UnitsDefinitions, read_deck};
-use crate::status::Status;
+use crate::definitions::{UnitsDefinitions, read_table};
 use crate::unit_table::UnitsTable;
-use deck::DeckFault;
-use edited_table::EditedTable;
+use edited_table::{Status, load_status};
 use std::alloc::Global;
 
 /// Opens a closed table over definitions in memory. Returns the status code. The table changes only if it is that of
@@ -49,32 +46,5 @@ pub extern "C" fn units_close(alloc: Global, table: &mut UnitsTable) -> u32
     match table.take(alloc) {
         Some(_content) => Status::Done.code(),
         None => Status::Closed.code(),
-    }
-}
-
-// Allocates a table over `definitions`.
-fn read_table(
-    alloc: Global,
-    definitions: &UnitsDefinitions<'_>,
-) -> Result<Box<EditedTable, Global>, DeckFault>
-    ensures { MatchResult result
-        (λ content. spec.IsCTableOpened definitions.now (Some content.value))
-        (λ fault. MayDeckLoadFailWith fault ⊎ (spec.c_deck_of_files definitions.now ≡ Err fault)) }
-{
-    let deck = read_deck(alloc, definitions)?;
-    let content = Box::new(alloc, EditedTable::new(alloc, deck))?;
-    Ok(content)
-}
-
-// Returns the status of a failed load.
-fn load_status(fault: &DeckFault) -> Status
-    ensures { result ≡ spec.load_status fault.now }
-{
-    match fault {
-        DeckFault::Absent => Status::NoSuchFile,
-        DeckFault::TooLong => Status::FileTooLong,
-        DeckFault::ReadFailed => Status::ReadFailed,
-        DeckFault::DeckFull => Status::DeckFull,
-        _ => Status::NoMemory,
     }
 }

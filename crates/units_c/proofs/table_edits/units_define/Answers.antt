@@ -2,7 +2,7 @@ use Rattle.std.proofs.Common.{length, subst}
 use Rattle.def_lines.specs.Blanks.{trimmed_of_blanks}
 use Rattle.deck.specs.Edits.{deck_after_defining}
 use Rattle.edited_table.specs.TableValue.{EditedTableView}
-use Rattle.units_c.specs.Edits.{IsAnsweredCEdit, c_deck_after_edit}
+use Rattle.edited_table.specs.EditAnswers.{IsAnsweredCEdit, c_deck_after_edit}
 use Rattle.units_c.proofs.Exported.{open_noted}
 use Rattle.units_c.proofs.table_edits.units_define.Goals as goal
 

@@ -1,7 +1,7 @@
 use Rattle.std.proofs.Common.{length, subst}
 use Rattle.def_entry.specs.Keys.{key_of_spelling}
 use Rattle.edited_table.specs.TableValue.{EditedTableView}
-use Rattle.units_c.specs.Edits.{IsAnsweredCEdit, c_deck_after_drop, c_drop_outcome}
+use Rattle.edited_table.specs.EditAnswers.{IsAnsweredCEdit, c_deck_after_drop, c_drop_outcome}
 use Rattle.units_c.proofs.Exported.{open_noted}
 use Rattle.units_c.proofs.table_edits.units_drop.Goals as goal
 

@@ -1,6 +1,6 @@
 use Rattle.std.proofs.Common.{length, subst}
 use Rattle.edited_table.specs.TableValue.{EditedTableView}
-use Rattle.units_c.specs.Turns.{IsAnsweredCTurn, IsCEditUndone}
+use Rattle.edited_table.specs.TurnAnswers.{IsAnsweredCTurn, IsCEditUndone}
 use Rattle.units_c.proofs.Exported.{open_turn}
 use Rattle.units_c.proofs.table_edits.units_undo.Goals as goal
 

@@ -1,7 +1,7 @@
 -- The status codes that C sees.
 use Rattle.std.specs.Prelude.{ℕ}
-use Rattle.units_c.specs.declared.status.Status.{Status}
-use Rattle.units_c.specs.declared.status.Status.TheVariants as status
+use Rattle.edited_table.specs.declared.status.Status.{Status}
+use Rattle.edited_table.specs.declared.status.Status.TheVariants as status
 
 abbrev pub status_code : Status → ℕ
 status_code status.Done = 0

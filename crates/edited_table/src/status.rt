@@ -1,7 +1,7 @@
 //! The status codes of calls.
 
 ghost use Rattle.std.specs.Prelude.{◌≡◌};
-ghost use Rattle.units_c.specs.Statuses as spec;
+ghost use Rattle.edited_table.specs.Statuses as spec;
 
 /// The outcome of a call. C sees its number.
 #[derive(Clone, Copy, Debug, PartialEq, Eq)]

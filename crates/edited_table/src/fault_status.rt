@@ -1,7 +1,7 @@
 //! The status of a fault, from its text.
 
 ghost use Rattle.std.specs.Prelude.{◌≡◌};
-ghost use Rattle.units_c.specs.Words as spec;
+ghost use Rattle.edited_table.specs.Words as spec;
 
 use crate::status::Status;
 

@@ -1,8 +1,8 @@
 use Rattle.std.proofs.Common.{[]}
 use Rattle.def_lines.specs.Blanks.{trimmed_of_blanks}
 use Rattle.deck.specs.Edits.{deck_after_defining}
-use Rattle.units_c.proofs.EditOutcomes.{edit_left}
-use Rattle.units_c.proofs.edit_answer.answer_define.Goals as goal
+use Rattle.edited_table.proofs.EditOutcomes.{edit_left}
+use Rattle.edited_table.proofs.edit_answer.answer_define.Goals as goal
 
 pub returns-clause-edited : goal.returns-clause-edited
 returns-clause-edited c =

@@ -2,18 +2,18 @@
 
 ghost use Rattle.std.specs.Prelude.{◌≡◌, ◌≢◌, Err, IfErr, IfOk, IsErr, codes};
 ghost use Rattle.edit_history.specs.declared.fault.HistoryFault.TheVariants as history_fault;
-ghost use Rattle.units_c.specs.Turns as spec;
-ghost use Rattle.units_c.specs.declared.status.Status.TheVariants as statuses;
+ghost use Rattle.edited_table.specs.TurnAnswers as spec;
+ghost use Rattle.edited_table.specs.declared.status.Status.TheVariants as statuses;
 
 use crate::answer::Answer;
 use crate::edit_answer::{edit_made, text_answer};
+use crate::edited_table::EditedTable;
 use crate::status::Status;
 use edit_history::HistoryFault;
-use edited_table::EditedTable;
 use std::alloc::{AllocError, Global};
 
 /// Undoes the last edit that is not undone, and returns the answer.
-pub(crate) fn answer_undo(alloc: Global, content: &mut EditedTable) -> Result<Answer, AllocError>
+pub fn answer_undo(alloc: Global, content: &mut EditedTable) -> Result<Answer, AllocError>
     ensures answer { IfOk result (λ answer. answer
         ≡ spec.c_turn_answer statuses.NothingToUndo (codes "nothing to undo") content.old.history.done_steps) }
     ensures undone { spec.IsAnsweredCTurn spec.IsCEditUndone result content.old content.new }
@@ -23,7 +23,7 @@ pub(crate) fn answer_undo(alloc: Global, content: &mut EditedTable) -> Result<An
 }
 
 /// Redoes the last undone edit, and returns the answer.
-pub(crate) fn answer_redo(alloc: Global, content: &mut EditedTable) -> Result<Answer, AllocError>
+pub fn answer_redo(alloc: Global, content: &mut EditedTable) -> Result<Answer, AllocError>
     ensures answer { IfOk result (λ answer. answer
         ≡ spec.c_turn_answer statuses.NothingToRedo (codes "nothing to redo") content.old.history.undone) }
     ensures redone { spec.IsAnsweredCTurn spec.IsCEditRedone result content.old content.new }

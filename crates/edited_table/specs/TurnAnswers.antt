@@ -1,17 +1,16 @@
 -- The answers to undos and redos, and their effect on the table.
-use Rattle.std.specs.Prelude.{◌≡◌, ◌≢◌, [], ◌∷◌, ℕ, List, Option, Some, None, Result, Ok, Err, codes}
+use Rattle.std.specs.Prelude.{◌≡◌, ◌≢◌, [], ◌∷◌, ℕ, List, Result, Ok, Err, codes}
 use Rattle.std.specs.declared.alloc.AllocError.{AllocError}
 use Rattle.edit_history.specs.Calls.{IsUndoStepMoved}
 use Rattle.edit_history.specs.declared.fault.HistoryFault.{HistoryFault}
 use Rattle.edit_history.specs.declared.fault.HistoryFault.TheVariants as history
 use Rattle.edit_history.specs.declared.step.Step.{Step}
-use Rattle.edited_table.specs.TableValue.{EditedTableView}
-use Rattle.units_c.specs.Edits.{c_edit_made_answer}
-use Rattle.units_c.specs.Statuses.{status_code}
-use Rattle.units_c.specs.Tables.{c_definitions_of}
-use Rattle.units_c.specs.declared.answer.Answer.{Answer}
-use Rattle.units_c.specs.declared.status.Status.{Status}
-use Rattle.units_c.specs.declared.status.Status.TheVariants as status
+use Rattle.edited_table.specs.EditAnswers.{c_edit_made_answer}
+use Rattle.edited_table.specs.Statuses.{status_code}
+use Rattle.edited_table.specs.TableValue.{EditedTableView, c_definitions_of}
+use Rattle.edited_table.specs.declared.answer.Answer.{Answer}
+use Rattle.edited_table.specs.declared.status.Status.{Status}
+use Rattle.edited_table.specs.declared.status.Status.TheVariants as status
 
 -- the answer to an undo or a redo, given the steps that are left
 abbrev pub c_turn_answer : Status → (words : List ℕ) → List Step → Answer
@@ -31,15 +30,6 @@ IsCEditRedone before after =
     IsUndoStepMoved before.history.undone after.history.undone before.history.done_steps after.history.done_steps
     before.table.deck
     after.table.deck
-
--- the effect of an undo or a redo on a table; if there is no edit to undo or redo, nothing changes
-abbrev pub TurnsCTable : (EditedTableView → EditedTableView → Type 0) → (result : ℕ)
-    → (before after : Option EditedTableView) → Type 0
-TurnsCTable IsTurn result None after = after ≡ None
-TurnsCTable IsTurn result (Some e) None = ⊥
-TurnsCTable IsTurn result (Some e) (Some e') =
-    (result ≡ status_code status.Done → IsTurn e e')
-    × (result ≢ status_code status.Done → c_definitions_of e' ≡ c_definitions_of e)
 
 -- the answer to an undo or a redo with this outcome
 abbrev pub c_turned_answer : Result (Unit {0}) HistoryFault → Answer

@@ -8,9 +8,9 @@ use Rattle.reply.specs.declared.fault.ReplyFault.{ReplyFault}
 use Rattle.reply.specs.Options.{reply_form}
 use Rattle.reply.specs.declared.options.Options.{Options}
 use Rattle.quantity.specs.Amount.{Amount}
-use Rattle.units_c.specs.Faults.{fault_status}
-use Rattle.units_c.specs.declared.status.Status.{Status}
-use Rattle.units_c.specs.declared.status.Status.TheVariants as status
+use Rattle.edited_table.specs.Faults.{fault_status}
+use Rattle.edited_table.specs.declared.status.Status.{Status}
+use Rattle.edited_table.specs.declared.status.Status.TheVariants as status
 
 -- the first words of texts, each with the status of the texts that begin with them
 abbrev pub StatusRows : Type 0

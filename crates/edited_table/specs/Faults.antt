@@ -1,5 +1,7 @@
 -- The statuses of faults.
 use Rattle.std.specs.Prelude.{Result, Ok, Err}
+use Rattle.deck.specs.declared.fault.DeckFault.{DeckFault}
+use Rattle.deck.specs.declared.fault.DeckFault.TheVariants as deck
 use Rattle.expr_tree.specs.declared.fault.ParseFault.{ParseFault}
 use Rattle.expr_tree.specs.declared.fault.ParseFault.TheVariants as parse
 use Rattle.frac128.specs.declared.fault.FracFault.{FracFault}
@@ -11,8 +13,8 @@ use Rattle.table_names.specs.declared.fault.NameFault.{NameFault}
 use Rattle.table_names.specs.declared.fault.NameFault.TheVariants as name
 use Rattle.tree_eval.specs.declared.fault.ValueFault.{ValueFault}
 use Rattle.tree_eval.specs.declared.fault.ValueFault.TheVariants as value
-use Rattle.units_c.specs.declared.status.Status.{Status}
-use Rattle.units_c.specs.declared.status.Status.TheVariants as status
+use Rattle.edited_table.specs.declared.status.Status.{Status}
+use Rattle.edited_table.specs.declared.status.Status.TheVariants as status
 
 -- the status of a text that is not an expression
 abbrev pub parse_status : ParseFault → Status
@@ -59,3 +61,11 @@ fault_status (ListUnit place) = status.ListUnitNotPositive
 abbrev pub c_value_status : Result Amount ReplyFault → Status
 c_value_status (Ok x) = status.Done
 c_value_status (Err fault) = fault_status fault
+
+-- the status of a load that failed with this fault
+abbrev pub load_status : DeckFault → Status
+load_status deck.Absent = status.NoSuchFile
+load_status deck.TooLong = status.FileTooLong
+load_status deck.ReadFailed = status.ReadFailed
+load_status deck.DeckFull = status.DeckFull
+load_status _ = status.NoMemory

@@ -12,11 +12,12 @@ use Rattle.edited_table.specs.TableValue.{EditedTableView}
 use Rattle.expr_tree.specs.declared.fault.ParseFault.TheVariants as parse
 use Rattle.live_table.specs.Edits.{IsLiveEditOf}
 use Rattle.live_table.specs.TableView.{LiveView}
-use Rattle.units_c.specs.Edits.{HasCMessage, IsAnsweredCEdit, c_deck_after_edit, c_edited_answer, has_own_c_message}
-use Rattle.units_c.specs.Edits.{c_refusal_answer}
-use Rattle.units_c.specs.Statuses.{status_code}
-use Rattle.units_c.specs.Tables.{c_definitions_of}
-use Rattle.units_c.specs.declared.answer.Answer.{Answer}
+use Rattle.edited_table.specs.EditAnswers.{HasCMessage, IsAnsweredCEdit, c_deck_after_edit, c_edited_answer}
+use Rattle.edited_table.specs.EditAnswers.{has_own_c_message}
+use Rattle.edited_table.specs.EditAnswers.{c_refusal_answer}
+use Rattle.edited_table.specs.Statuses.{status_code}
+use Rattle.edited_table.specs.TableValue.{c_definitions_of}
+use Rattle.edited_table.specs.declared.answer.Answer.{Answer}
 
 -- the code of a refusal with its own message is greater than the codes of `Done` and `NoMemory`
 refusal_status_code : (why : DeckFault) (named : List ℕ) → has_own_c_message why ≡ true → why ≢ fault.OutOfMemory

@@ -6,14 +6,14 @@ ghost use Rattle.deck.specs.declared.fault.DeckFault.TheVariants as deck_fault;
 ghost use Rattle.def_entry.specs.Keys.{key_of_spelling};
 ghost use Rattle.def_lines.specs.Blanks.{trimmed_of_blanks};
 ghost use Rattle.edit_history.specs.Calls.{IsEditRecorded};
+ghost use Rattle.edited_table.specs.EditAnswers as spec;
 ghost use Rattle.live_table.specs.Edits.{IsLiveEditOf};
-ghost use Rattle.units_c.specs.Edits as spec;
 
 use crate::answer::Answer;
+use crate::edited_table::EditedTable;
 use crate::status::Status;
 use deck::DeckFault;
 use def_entry::{EntryFault, Key, KeyFault, entry_fault_text, entry_memory_law, read_key};
-use edited_table::EditedTable;
 use expr_tree::ParseFault;
 use std::alloc::{AllocError, Global};
 use units_io::Text;
@@ -75,7 +75,7 @@ fn entry_status(fault: &EntryFault) -> Status
 }
 
 /// Adds the definition in `line` and returns the answer.
-pub(crate) fn answer_define(
+pub fn answer_define(
     alloc: Global,
     content: &mut EditedTable,
     line: &[u8],
@@ -104,7 +104,7 @@ fn define_line(alloc: Global, content: &mut EditedTable, line: &[u8]) -> Result<
 
 /// Drops the last active definition of the key that `text` names, and returns the answer. Refuses a text that is not a
 /// key.
-pub(crate) fn answer_drop(
+pub fn answer_drop(
     alloc: Global,
     content: &mut EditedTable,
     text: &[u8],

@@ -9,10 +9,10 @@ use Rattle.reply.specs.Replies.{conversion_inquiry, conversion_reply, conversion
 use Rattle.reply.specs.declared.fault.ReplyFault.{ReplyFault}
 use Rattle.reply.specs.declared.reply.FromValue.TheVariants.{Bad}
 use Rattle.reply.specs.declared.options.Options.{Options}
-use Rattle.units_c.specs.Answers.{c_conversion_answer, c_reply_answer, c_value_answer, conversion_status}
-use Rattle.units_c.specs.Words.{TellStatuses, status_of_text}
-use Rattle.units_c.specs.declared.answer.Answer.{Answer}
-use Rattle.units_c.specs.declared.status.Status.{Status}
+use Rattle.edited_table.specs.Answers.{c_conversion_answer, c_reply_answer, c_value_answer, conversion_status}
+use Rattle.edited_table.specs.Words.{TellStatuses, status_of_text}
+use Rattle.edited_table.specs.declared.answer.Answer.{Answer}
+use Rattle.edited_table.specs.declared.status.Status.{Status}
 
 abbrev answer_of : Status → List ℕ → Answer
 answer_of s words = record { status = s; text = words }

@@ -1,7 +1,10 @@
--- The answers of calls: a status, and a text for the caller.
-use Rattle.std.specs.Prelude.{◌≡◌, ◌<◌, ◌≤◌, ℕ, List, Result, Ok, Err, length, take, if◌then◌else◌}
+-- The answers to queries: a status, and a text for the caller.
+use Rattle.std.specs.Prelude.{ℕ, List, Bool, true, false, Option, Some, None, Result, Ok, Err, if◌then◌else◌}
+use Rattle.column_convert.specs.Blocks.{is_error_row, text_of_rows}
+use Rattle.column_convert.specs.Rows.{ColumnRow}
 use Rattle.def_entry.specs.Tables.{EntryTable}
 use Rattle.def_lines.specs.Blanks.{trimmed_of_blanks}
+use Rattle.frac128.specs.Fraction.{Fraction}
 use Rattle.quantity.specs.Amount.{Amount}
 use Rattle.quantity.specs.Text.{powers_text}
 use Rattle.reply.specs.Faults.{fault_text}
@@ -11,12 +14,11 @@ use Rattle.reply.specs.Replies.{conversion_inquiry, conversion_reply}
 use Rattle.reply.specs.declared.fault.ReplyFault.{ReplyFault}
 use Rattle.reply.specs.declared.options.Options.{Options}
 use Rattle.reply.specs.declared.reply.Reply.{Reply}
-use Rattle.units_c.specs.Faults.{fault_status, c_value_status}
-use Rattle.units_c.specs.Statuses.{status_code}
-use Rattle.units_c.specs.Words.{status_of_text}
-use Rattle.units_c.specs.declared.answer.Answer.{Answer}
-use Rattle.units_c.specs.declared.status.Status.{Status}
-use Rattle.units_c.specs.declared.status.Status.TheVariants as status
+use Rattle.edited_table.specs.Faults.{fault_status, c_value_status}
+use Rattle.edited_table.specs.Words.{status_of_text}
+use Rattle.edited_table.specs.declared.answer.Answer.{Answer}
+use Rattle.edited_table.specs.declared.status.Status.{Status}
+use Rattle.edited_table.specs.declared.status.Status.TheVariants as status
 
 -- the answer for a reply: its status is determined by its text
 abbrev pub c_reply_answer : Reply → Answer
@@ -52,10 +54,28 @@ abbrev pub c_value_answer : Options → Result Amount ReplyFault → Answer
 c_value_answer options value_or_fault =
     record { status = c_value_status value_or_fault; text = c_value_text options value_or_fault }
 
--- an answer was delivered to a buffer with this room: its text is at the front of the buffer, or, if the buffer is too
--- short, only the length of the text is reported
-pub record IsAnswerHandedToC (answer : Answer) (room result written : ℕ) (out : List ℕ) : Type 0 where
-  pub length_is_written : written ≡ length answer.text
-  pub status_is_result : length answer.text ≤ room → result ≡ status_code answer.status
-  pub text_is_written : length answer.text ≤ room → take written out ≡ answer.text
-  pub no_room : room < length answer.text → result ≡ status_code status.NoRoom
+-- the number of a value, if there is one
+abbrev pub c_value_number : Result Amount ReplyFault → Option Fraction
+c_value_number (Ok x) = Some x.value
+c_value_number (Err fault) = None
+
+-- the options for values: numbers in the texts of faults are exact
+abbrev pub c_exact_options : Options
+c_exact_options = record {
+  digits = 8;
+  exact = true;
+  strict = true;
+  one_line = true;
+  compact = true;
+  quiet = true;
+  round = false;
+  verbose = false;
+}
+
+-- the status of rows, given whether a cell is an error
+abbrev pub rows_status : (refused : Bool) → Status
+rows_status refused = if refused then status.CellError else status.Done
+
+-- the concatenated rows, with their status
+abbrev pub c_rows_answer : List ColumnRow → Answer
+c_rows_answer rows = record { status = rows_status (is_error_row rows); text = text_of_rows rows }
