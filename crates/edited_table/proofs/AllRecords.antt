@@ -36,7 +36,7 @@ stripped_text_is_no_longer (a ∷ b ∷ c ∷ rest) = go (is_bom a b c)
     go true = omega arith
     go false = omega arith
 
-pub first_records_are_all : (text : List ℕ) (number : ℕ) (header : Bool) (most : ℕ) → most ≡ length text + 1
+first_records_are_all : (text : List ℕ) (number : ℕ) (header : Bool) (most : ℕ) → most ≡ length text + 1
     → first_records most (column_input_of_text text number header) ≡ column_input_of_text text number header
 first_records_are_all text number header most is =
     let all : ColumnInput = column_input_of_text text number header in
@@ -49,12 +49,9 @@ first_records_are_all text number header most is =
       few_records default_config (length (strip_bom text) + 1) parser.StartRecord (strip_bom text),
     )))
 
--- the first records of a copy of the text are all of its records
-pub first_records_of_copy_are_all : (text copy : List ℕ) (number : ℕ) (header : Bool) (most : ℕ) (columns : ColumnInput)
-    → copy ≡ text
-    → columns ≡ column_input_of_text copy number header → most ≡ length text + 1
+-- so many first records of the columns of a text are all of them
+pub first_records_of_text_are_all : (text : List ℕ) (number : ℕ) (header : Bool) (most : ℕ) (columns : ColumnInput)
+    → columns ≡ column_input_of_text text number header → most ≡ length text + 1
     → first_records most columns ≡ column_input_of_text text number header
-first_records_of_copy_are_all text copy number header most columns same is enough =
-    ap (first_records most) is
-    ∙ ap (λ (t : List ℕ). first_records most (column_input_of_text t number header)) same
-    ∙ first_records_are_all text number header most enough
+first_records_of_text_are_all text number header most columns is enough =
+    ap (first_records most) is ∙ first_records_are_all text number header most enough

@@ -99,7 +99,7 @@ fn define_line(alloc: Global, content: &mut EditedTable, line: &[u8]) -> Result<
     ensures has_words { spec.HasCMessage result }
 {
     entry_memory_law();
-    content.define(alloc, line)
+    content.history.define(alloc, &mut content.table, line)
 }
 
 /// Drops the last active definition of the key that `text` names, and returns the answer. Refuses a text that is not a
@@ -135,7 +135,7 @@ fn answer_drop_of(
         (spec.c_deck_after_edit (deck_after_dropping key.now content.old.table.deck) content.old.table.deck)
         result content.old content.new }
 {
-    let edited = content.drop_last(alloc, key);
+    let edited = content.history.drop_last(alloc, &mut content.table, key);
     answer_edit(alloc, &edited, text)
 }
 

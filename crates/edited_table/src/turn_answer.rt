@@ -18,7 +18,7 @@ pub fn answer_undo(alloc: Global, content: &mut EditedTable) -> Result<Answer, A
         ≡ spec.c_turn_answer statuses.NothingToUndo (codes "nothing to undo") content.old.history.done_steps) }
     ensures undone { spec.IsAnsweredCTurn spec.IsCEditUndone result content.old content.new }
 {
-    let turned = content.undo(alloc);
+    let turned = content.history.undo(alloc, &mut content.table);
     answer_turn(alloc, turned)
 }
 
@@ -28,7 +28,7 @@ pub fn answer_redo(alloc: Global, content: &mut EditedTable) -> Result<Answer, A
         ≡ spec.c_turn_answer statuses.NothingToRedo (codes "nothing to redo") content.old.history.undone) }
     ensures redone { spec.IsAnsweredCTurn spec.IsCEditRedone result content.old content.new }
 {
-    let turned = content.redo(alloc);
+    let turned = content.history.redo(alloc, &mut content.table);
     answer_turn(alloc, turned)
 }
 

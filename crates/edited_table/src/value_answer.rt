@@ -1,9 +1,10 @@
 //! Answers to expressions.
 
-ghost use Rattle.std.specs.Prelude.{◌≡◌, ◌≤◌, IfOk, drop, length};
+ghost use Rattle.std.specs.Prelude.{◌≡◌, ◌<◌, ◌≤◌, IfOk, drop, length};
 ghost use Rattle.edited_table.specs.Answers as spec;
 ghost use Rattle.edited_table.specs.TableValue.{c_definitions_of, c_query_table};
 ghost use Rattle.reply.specs.Options.{AreReplyOptionsPrintable};
+ghost use Rattle.reply.specs.Replies as replies;
 
 use crate::answer::{Answer, fault_answer};
 use crate::edited_table::EditedTable;
@@ -13,9 +14,11 @@ use def_lines::trim;
 use digits_print::{Style, print_number};
 use frac128::Frac;
 use quantity::Quantity;
-use reply::{FromValue, Options};
+use reply::{FromValue, Options, from_value};
 use std::alloc::{AllocError, Global};
-use units_io::Text;
+use std::marker::Brand;
+use std::sync::ledger::{Blank, Ledger};
+use units_io::{Steps, Text};
 
 /// Evaluates an expression. Returns the answer, and the number of the value if there is one.
 pub fn answer_value(
@@ -30,7 +33,8 @@ pub fn answer_value(
     ensures unedited { c_definitions_of content.new ≡ c_definitions_of content.old }
 {
     statuses_law();
-    match content.value(alloc, &exact_options(), expression)? {
+    let options = exact_options();
+    match counted_value::<Brand>(alloc, content, &options, expression, Blank::new(1))? {
         FromValue::Good(x) => {
             let text = dimension(alloc, &x)?;
             let status = Status::Done;
@@ -38,6 +42,26 @@ pub fn answer_value(
         }
         FromValue::Bad(text) => Ok((fault_answer(text), None)),
     }
+}
+
+// Evaluates an expression with a step counter that nobody reads.
+fn counted_value<L: Ledger>(
+    alloc: Global,
+    content: &mut EditedTable,
+    options: &Options,
+    expression: &[u8],
+    blank: Blank,
+) -> Result<FromValue, AllocError>
+    requires name { blank.name ≡ L.name }
+    requires parts { blank.parts ≡ L.parts }
+    requires some { 0 < blank.parts }
+    requires printable { AreReplyOptionsPrintable options.now }
+    ensures value { IfOk result (λ value.
+        value ≡ replies.from_value (c_query_table content.old) options.now expression.now) }
+    ensures unedited { c_definitions_of content.new ≡ c_definitions_of content.old }
+{
+    let mut steps: Steps<L> = Steps::new(blank);
+    from_value(alloc, &mut content.table, options, expression, &mut steps)
 }
 
 // Returns options that write exact numbers in the texts of faults.

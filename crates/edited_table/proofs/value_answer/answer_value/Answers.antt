@@ -11,6 +11,6 @@ returns-in-Bad-clause-answer c =
     let value_or_fault = c_value_of (c_query_table c.args.content.now) c.args.expression.now in
     c.fault_answer.ensures
     ∙ c_fault_text_answers_value c.statuses_law.ensures c_exact_options value_or_fault c.in-Bad.text
-    (ap (λ (o : Options). reply_from_value o value_or_fault) (sym c.exact_options.ensures.is)
+    (ap (λ (o : Options). reply_from_value o value_or_fault) (sym c.exact_options-options.ensures.is)
     ∙ sym c.in_ok-x.ensures.value
     ∙ c.in-Bad.is)

@@ -4,8 +4,8 @@ use Rattle.column_convert.specs.Blocks.{block_of_rows}
 use Rattle.column_convert.specs.Inputs.{ColumnInput}
 use Rattle.column_convert.specs.Rows.{rows}
 use Rattle.column_convert.specs.declared.block.Block.{Block}
-use Rattle.edited_table.proofs.AllRecords.{first_records_of_copy_are_all}
-use Rattle.edited_table.proofs.column.counted_column.Goals as goal
+use Rattle.edited_table.proofs.AllRecords.{first_records_of_text_are_all}
+use Rattle.edited_table.proofs.column_answer.counted_column.Goals as goal
 
 pub returns-clause-block : goal.returns-clause-block
 returns-clause-block g c =
@@ -14,7 +14,6 @@ returns-clause-block g c =
     ≡ block_of_rows (rows (table_of_deck c.args.table.now.deck) c.args.column.now.question.options.now
     c.args.column.now.question.from.now
     c.args.column.now.question.to.now i)))
-    (first_records_of_copy_are_all c.args.text.now c.in_ok-input.input c.args.column.now.number
-    c.args.column.now.has_header
-    c.in-Some.most c.in_ok-columns.columns c.in_ok-input.ensures c.in_ok-columns.ensures enough)
+    (first_records_of_text_are_all c.args.text.now c.args.column.now.number c.args.column.now.has_header c.in-Some.most
+    c.in_ok-columns.columns c.in_ok-columns.ensures enough)
     c.next_rows.ensures.block

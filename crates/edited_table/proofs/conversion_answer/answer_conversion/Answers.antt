@@ -2,7 +2,7 @@ use Rattle.std.proofs.Common.{◌∙◌, ap}
 use Rattle.edited_table.specs.Answers.{c_reply_answer}
 use Rattle.edited_table.specs.TableValue.{c_query_table}
 use Rattle.edited_table.proofs.Replied.{c_reply_answers_conversion}
-use Rattle.edited_table.proofs.query_answers.answer_conversion.Goals as goal
+use Rattle.edited_table.proofs.conversion_answer.answer_conversion.Goals as goal
 
 pub returns-clause-answer : goal.returns-clause-answer
 returns-clause-answer c =
