@@ -8,10 +8,24 @@ use Rattle.edited_table.specs.TableValue.{EditedTableView}
 use Rattle.units_c.specs.Delivery.{IsAnswerHandedToC}
 use Rattle.edited_table.specs.EditAnswers.{IsAnsweredCEdit}
 use Rattle.units_c.specs.Edits.{NotesCEdit, TurnsCTable}
+use Rattle.units_c.specs.Tables.{IsCTableAnswered}
 use Rattle.edited_table.specs.Statuses.{status_code}
 use Rattle.edited_table.specs.TurnAnswers.{IsAnsweredCTurn}
 use Rattle.edited_table.specs.declared.answer.Answer.{Answer}
 use Rattle.edited_table.specs.declared.status.Status.TheVariants as status
+
+-- a call on an open table delivers its answer
+pub open_answered : (held : Option EditedTableView) (e : EditedTableView) (answer : EditedTableView → Answer)
+    (answered : Result Answer AllocError) (room result written : ℕ) (out : List ℕ) → Some e ≡ held
+    → IfErr answered (λ _. result ≡ status_code status.NoMemory)
+    → IfOk answered (λ a. IsAnswerHandedToC a room result written out) → IfOk answered (λ a. a ≡ answer e)
+    → IsCTableAnswered held answer room result written out
+open_answered held e answer (Ok a) room result written out taken memory handed is =
+    subst (λ (h : Option EditedTableView). IsCTableAnswered h answer room result written out) taken
+    (λ _. subst (λ (b : Answer). IsAnswerHandedToC b room result written out) is handed)
+open_answered held e answer (Err x) room result written out taken memory handed is =
+    subst (λ (h : Option EditedTableView). IsCTableAnswered h answer room result written out) taken
+    (λ other. absurd (other memory))
 
 -- a call whose result is `Done` has an answer with the status `Done`; the text of the answer has `n` bytes
 c_call_is_done : (n room result s : ℕ) → (n ≤ room → result ≡ s) → (room < n → result ≡ 2) → result ≡ 0
