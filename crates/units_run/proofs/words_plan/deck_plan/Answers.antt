@@ -3,8 +3,8 @@ use Rattle.std.specs.Prelude.{IfOk}
 use Rattle.deck.specs.FileLoads.{IsDeckLoaded, deck_after_loading}
 use Rattle.units_run.specs.Definitions.{no_deck_run_line}
 use Rattle.units_run.specs.Plans.{complaint_plan}
-use Rattle.units_run.specs.ProgramPlans.{IsPlanned, IsPossiblePlan}
-use Rattle.units_run.specs.Work.{deck_plan}
+use Rattle.units_run.specs.ProgramPlans.{IsPlan, IsPlanned, IsPossiblePlan}
+use Rattle.units_run.specs.Work.{deck_plan, plan_of_work}
 use Rattle.units_run.specs.declared.status.Status.TheVariants.{NoFile}
 use Rattle.units_run.proofs.WordPlans.{needed_run_value_is_known, plan_without_deck}
 use Rattle.units_run.proofs.words_plan.deck_plan.Goals as goal
@@ -35,3 +35,14 @@ returns-in-Err-clause-kind g c =
     subst (λ (file : Bool). IfOk c.no_deck_plan.result (IsPossiblePlan true file session column))
     (sym (ap is_some c.in-Some.is))
     (c.no_deck_plan.ensures.kind session column)
+
+pub returns-in_default-clause-if_known : goal.returns-in_default-clause-if_known
+returns-in_default-clause-if_known g c = λ m s.
+    let line = c.args.line.now in
+    let plan = c.in_ok-work.field-0 in
+    let old = c.args.steps.now in
+    let new = c.work.new.steps in
+    subst (λ (file : Option (List ℕ)). IsPlan (deck_plan file line c.args.settings m) m plan old new)
+    (sym c.in_default.is)
+    (subst (λ deck. IsPlan (plan_of_work line.from line deck m) m plan old new) c.in_ok-deck.ensures
+    (c.in_ok-work.ensures.if_known m))
