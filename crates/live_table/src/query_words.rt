@@ -12,7 +12,7 @@ ghost use Rattle.live_table.specs.TableContents.{node_lists};
 use crate::dead_end::DeadEnd;
 use crate::nodes::Nodes;
 use crate::tried_keys::TriedKeys;
-use crate::word_steps::{push_steps, target_steps};
+use crate::word_steps::{push_steps, step_list_for, target_steps};
 use crate::word_targets::{Destination, query_destination};
 use crate::worklist::Worklist;
 use deck::Deck;
@@ -48,7 +48,7 @@ pub(crate) fn query_steps(
         (λ query. AreExploredQuerySteps (table_of_deck deck.now) (node_lists nodes.new) explored.now worklist.new
         words.now query.steps query.end) }
 {
-    let mut steps = StepList::new(alloc);
+    let mut steps = step_list_for(alloc, words)?;
     for u in words.as_slice() {
         let destination = query_destination(alloc, deck, nodes, tried, u)?;
         let Some(word) = target_steps(nodes, explored, worklist, destination)? else {

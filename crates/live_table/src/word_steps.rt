@@ -47,7 +47,7 @@ pub(crate) fn put_words(
         → AreNodeLooks (table_of_deck deck.now) nodes.new.keys words.now steps nodes.new.gathered) }
 {
     nodes.gathered.clear();
-    let mut steps = StepList::new(alloc);
+    let mut steps = step_list_for(alloc, words)?;
     for u in words.as_slice() {
         put_word(
             alloc, deck, nodes, explored, worklist, dead_ends, tried, u, &mut steps,
@@ -78,6 +78,13 @@ fn put_word(
 {
     let word = word_steps(alloc, deck, nodes, explored, worklist, dead_ends, tried, u)?;
     push_steps(steps, word)
+}
+
+/// Returns an empty list with room for the steps of all words. The only error is lack of memory.
+pub(crate) fn step_list_for(alloc: Global, words: &Words<'_>) -> Result<StepList, AllocError>
+    ensures { IfOk result (λ steps. steps ≡ []) }
+{
+    StepList::with_capacity(alloc, words.len().saturating_mul(2))
 }
 
 /// Appends the two steps of a word. The only error is lack of memory.

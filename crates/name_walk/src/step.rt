@@ -1,6 +1,6 @@
 //! The steps by which words lead to names.
 
-ghost use Rattle.std.specs.Prelude.{◌≡◌, ◌∷◌, [], ◌++◌, OnOk, OnErr};
+ghost use Rattle.std.specs.Prelude.{◌≡◌, ◌∷◌, [], ◌++◌, IfOk, OnOk, OnErr};
 
 use std::alloc::{AllocError, Global};
 use std::marker::Model;
@@ -37,6 +37,14 @@ impl StepList {
         StepList {
             items: Vec::new(alloc),
         }
+    }
+
+    /// Returns an empty list with room for `len` steps.
+    pub fn with_capacity(alloc: Global, len: usize) -> Result<StepList, AllocError>
+        ensures { IfOk result (λ steps. steps ≡ []) }
+    {
+        let items = Vec::with_capacity(alloc, len)?;
+        Ok(StepList { items })
     }
 
     /// Appends a step. On an error nothing changes.
