@@ -54,7 +54,7 @@ new_text_is_pushed : (c : goal.After-self-in-Ok-Vacant-2-1)
 new_text_is_pushed c =
     let key : c.key.result.now ≡ c.into_bytes.result =
     c.key.ensures ∙ ap entry_key (sym c.in-Ok-Vacant.field-0-is) ∙ c.in-Ok-Vacant.ensures.key (new_text_has_no_entry c)
-        in
+    in
     let bytes : c.deref.result.now ≡ c.args.text =
     c.deref.ensures.value ∙ ap (λ (key : Vec ℕ Global). key.items) key ∙ c.into_bytes.ensures in
     c.push.ensures.texts ∙ ap (λ text. c.self.inside.texts.texts ++ text ∷ []) bytes
@@ -76,5 +76,5 @@ invariant_of-self-in-Ok-Vacant c =
     (map_with_value c.in-Ok-Vacant.field-0 c.insert.result.now) c.into_bytes.result.items (Some c.insert.result.now)
     (c.in-Ok-Vacant.ensures.update.0 c.insert.result.now) in
     rw (new_text_is_pushed c)
-        (AreTextNumbers-append (text_number c.self.inside.numbers) _ c.self.inside.texts.texts c.args.text
+    (AreTextNumbers-append (text_number c.self.inside.numbers) _ c.self.inside.texts.texts c.args.text
     c.self.invariant (new_text_is_absent c) (λ other. search (rules, updated other)))
