@@ -144,40 +144,33 @@ def product(count: int) -> Run:
     return Run(("w",), deck)
 
 
-# The hash of a name in the tables of the program under the fixed seed.
+# The hashes of the program under the fixed seed.
 HASH_START = 0x243F6A8885A308D3
 HASH_MULTIPLIER = 0x9E3779B97F4A7C15
 WORD = (1 << 64) - 1
 
 
-def hash_after(state: int, number: int, length: int) -> int:
-    """The state after a number of `length` bytes."""
-    product = (state ^ number) * (HASH_MULTIPLIER ^ 2 * length)
+def hash_of_eight_bytes(number: int) -> int:
+    """The hash of a name of eight bytes, or of a hash as the key of a table."""
+    product = (HASH_START ^ number) * (HASH_MULTIPLIER ^ 16)
     return (product & WORD) ^ (product >> 64)
 
 
 def colliding_names(count: int) -> list[str]:
-    """Names with the same tag, by which a table distinguishes the names of a group. All searches begin in the first
+    """Names with the same tag, by which a table distinguishes the hashes of a group. All searches begin in the first
     quarter of the groups of a table of this size."""
     groups = 1 << max(2, math.ceil(math.log2(count / 9)))
     mask = 0xFF << 24 | groups - groups // 4
-    # A single byte is hashed as three equal ones.
-    numbers = {letter: ord(letter) * 0x010101 for letter in ascii_lowercase}
-    multiplier = HASH_MULTIPLIER ^ 2
-    start = hash_after(HASH_START, 8, 8)
     choices = random.Random(count)
     names: dict[str, None] = {}
     while len(names) < count:
         front = "".join(choices.choices(ascii_lowercase, k=6))
-        state = start
-        for letter in front:
-            state = hash_after(state, numbers[letter], 1)
-        for before, number in numbers.items():
-            next_state = hash_after(state, number, 1)
-            for letter, last in numbers.items():
-                product = (next_state ^ last) * multiplier
-                if (product ^ product >> 32 ^ product >> 64 ^ product >> 96) & mask == 1 << 24:
-                    names[front + before + letter] = None
+        for before in ascii_lowercase:
+            for letter in ascii_lowercase:
+                name = front + before + letter
+                key = hash_of_eight_bytes(hash_of_eight_bytes(int.from_bytes(name.encode(), "little")))
+                if (key ^ key >> 32) & mask == 1 << 24:
+                    names[name] = None
     return list(names)[:count]
 
 
