@@ -4,6 +4,7 @@ use Rattle.std.proofs.Common.{inr, refl, sym, ap, ◌∙◌, arith, length-appen
 use Rattle.std.proofs.Common.{slice_get}
 use Rattle.std.proofs.lemmas.List.{append-nil, drop_all, take_all}
 use Rattle.std.proofs.lemmas.Option.{slice_get_past, slice_get_within}
+use Rattle.general_lemmas.proofs.Places.{get_front}
 
 -- an item of two joined lists is an item of the first or of the second
 pub get_append : {A : Type 0} (xs ys : List A) (i : ℕ) (x : A) → slice_get (xs ++ ys) i ≡ Some x
@@ -54,13 +55,6 @@ store_item_at_second (x ∷ xs) ys i = ap (slice_get (x ∷ (xs ++ ys))) (next (
     next : (m j : ℕ) → suc m + j ≡ suc (m + j)
     next m j = omega arith
 
--- the front of a list has the same items at its places
-pub store_item_at_front : {A : Type 0} (n : ℕ) (xs : List A) (i : ℕ) → i < n → slice_get (take n xs) i ≡ slice_get xs i
-store_item_at_front zero xs i h = absurd (omega arith)
-store_item_at_front (suc n) [] i h = refl
-store_item_at_front (suc n) (x ∷ xs) zero h = refl
-store_item_at_front (suc n) (x ∷ xs) (suc i) h = store_item_at_front n xs i (omega arith)
-
 -- the items of a list after a part is replaced: those before it, the new ones, and those after it
 module _ {A : Type 0} (xs ys : List A) (at cut : ℕ) (h : at + cut ≤ length xs) where
   front_len : length (take at xs) ≡ at
@@ -70,7 +64,7 @@ module _ {A : Type 0} (xs ys : List A) (at cut : ℕ) (h : at + cut ≤ length x
       ≡ slice_get xs place
   exchanged_front place l = store_item_at_first (take at xs) (ys ++ drop (at + cut) xs) place
       (omega (arith, l, front_len))
-      ∙ store_item_at_front at xs place l
+      ∙ get_front at xs place l
 
   past_front : (place j : ℕ) → place ≡ at + j → slice_get (take at xs ++ (ys ++ drop (at + cut) xs)) place
       ≡ slice_get (ys ++ drop (at + cut) xs) j

@@ -27,6 +27,13 @@ get_take (suc n) [] i x e = cc
 get_take (suc n) (y ∷ xs) zero x e = e
 get_take (suc n) (y ∷ xs) (suc i) x e = get_take n xs i x e
 
+-- the front of a list has the same items at its places
+pub get_front : {A : Type 0} (n : ℕ) (xs : List A) (i : ℕ) → i < n → slice_get (take n xs) i ≡ slice_get xs i
+get_front zero xs i h = absurd (omega arith)
+get_front (suc n) [] i h = refl
+get_front (suc n) (x ∷ xs) zero h = refl
+get_front (suc n) (x ∷ xs) (suc i) h = get_front n xs i (omega arith)
+
 -- an item of the first of two lists is at its place in their concatenation
 pub get_left : {A : Type 0} (xs ys : List A) (i : ℕ) (x : A) → slice_get xs i ≡ Some x → slice_get (xs ++ ys) i ≡ Some x
 get_left [] ys i x e = cc

@@ -142,12 +142,7 @@ impl KeyIndex {
 
     /// Returns the number of a key, and adds the key with the next number if it has none. Allocates no memory for a key
     /// that has a number. On failure nothing changes.
-    pub(crate) fn add(
-        &mut self,
-        alloc: Global,
-        kind: Kind,
-        name: &[u8],
-    ) -> Result<Added, AllocError>
+    pub(crate) fn add(&mut self, kind: Kind, name: &[u8]) -> Result<Added, AllocError>
         ensures ok { IfOk result (λ added. IsNodeKeyAdded (key kind name.now) self.old self.new added.number
             added.is_new) }
         ensures err { OnErr result (self.new ≡ self.old) }
@@ -158,7 +153,7 @@ impl KeyIndex {
                 is_new: false,
             });
         }
-        let number = self.insert(alloc, kind, name)?;
+        let number = self.insert(kind, name)?;
         Ok(Added {
             number,
             is_new: true,
@@ -166,15 +161,14 @@ impl KeyIndex {
     }
 
     // Stores a new key, and returns its number. On failure nothing changes.
-    fn insert(&mut self, alloc: Global, kind: Kind, name: &[u8]) -> Result<usize, AllocError>
+    fn insert(&mut self, kind: Kind, name: &[u8]) -> Result<usize, AllocError>
         requires { is_entry_key_among self.old (key kind name.now) ≡ false }
         ensures ok { IfOk result (λ n. IsNodeKeyAdded (key kind name.now) self.old self.new n true) }
         ensures err { OnErr result (self.new ≡ self.old) }
     {
         // Makes room for later lookups of the key.
         overwrite(&mut self.wanted, kind, name)?;
-        let bytes = Text::from_bytes(alloc, &self.wanted)?;
-        self.keys.reserve(1, bytes.as_bytes().len())?;
-        Ok(self.keys.put(bytes))
+        self.keys.reserve(1, self.wanted.len())?;
+        Ok(self.keys.put(&self.wanted))
     }
 }

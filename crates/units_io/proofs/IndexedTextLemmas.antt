@@ -1,17 +1,15 @@
 -- The numbers of the texts of an index.
-use Rattle.std.proofs.Common.{◌≡◌, ◌<◌, ◌++◌, ◌∷◌, ◌∙◌, ◌||◌, [], ℕ, zero, suc, List, Bool, true, false, cond}
-use Rattle.std.proofs.Common.{Option, Some, None, Vec, refl, sym, ap, subst, inl, inr, arith, length, slice_get}
-use Rattle.std.proofs.Common.{true≢false}
-use Rattle.std.specs.Prelude.{MatchOption, OnOk, is_err, Result, Ok, Err}
-use Rattle.std.specs.HashMap.{HashMap, UpdatesBy}
+use Rattle.std.proofs.Common.{◌≡◌, ◌<◌, ◌≤◌, ◌++◌, ◌∷◌, ◌∙◌, ◌||◌, [], ℕ, zero, suc, List, Bool, true, false, cond}
+use Rattle.std.proofs.Common.{Option, Some, None, refl, sym, ap, subst, inl, inr, arith, length, slice_get, take}
+use Rattle.std.proofs.Common.{true≢false, take_all, nat_eq}
 use Rattle.std.specs.List.{list_any}
-use Rattle.std.specs.Map.{lookup, KeepsOthers, IsKeyTest, AreApart}
-use Rattle.std.specs.Cmp.Lexicographic.{nat_list_eq_equiv}
 use Rattle.std.specs.Str.{bytes_eq}
+use Rattle.std.proofs.lemmas.Bool.Decides.{Decides-eqb}
+use Rattle.std.proofs.lemmas.List.{length-append, length-take, take-append-le}
 use Rattle.std.proofs.lemmas.Option.{same_Some, slice_get_within}
 use Rattle.std.proofs.lemmas.Slice.Eq.{bytes_eq-Decides}
-use Rattle.general_lemmas.proofs.Places.{at_length, get_left, get_pushed}
-use Rattle.units_io.specs.IndexedTexts.{AreTextNumbers, text_number}
+use Rattle.general_lemmas.proofs.Places.{at_length, get_front, get_left, get_pushed, get_take}
+use Rattle.units_io.specs.IndexedTexts.{IsLastWithHash, IsTextIndex}
 
 -- a text that passes the test of a list has a place in it
 listed_text-from_any : (text : List ℕ) (texts : List (List ℕ)) → list_any (bytes_eq text) texts ≡ true
@@ -39,155 +37,194 @@ listed_text_is_any text (x ∷ xs) (suc n) e =
     either true = refl
     either false = refl
 
--- the result of a lookup of a number
-pub indexed_text_lookup : (number_of : List ℕ → Option ℕ) (texts : List (List ℕ)) (text : List ℕ) (found : Option ℕ)
-    → AreTextNumbers number_of texts → found ≡ number_of text
-    → MatchOption found (list_any (bytes_eq text) texts ≡ false) (λ n. slice_get texts n ≡ Some text)
-indexed_text_lookup number_of texts text (Some n) numbers is = (numbers text n).0 (sym is)
-indexed_text_lookup number_of texts text None numbers is = by _ refl
+-- ---- the search for a text
+-- a step of the search for a text: `place` has a text with the same hash, and the text is at no place after it
+pub record IsSearchPlace (hash_of : List ℕ → ℕ) (wanted : List ℕ) (texts : List (List ℕ)) (place : Option ℕ) : Type 0
   where
-    by : (b : Bool) → list_any (bytes_eq text) texts ≡ b → b ≡ false
+    pub has_hash : (n : ℕ) → place ≡ Some n
+        → (text : List ℕ) × (slice_get texts n ≡ Some text) × (hash_of text ≡ hash_of wanted)
+    pub is_last : (n : ℕ) → slice_get texts n ≡ Some wanted → (m : ℕ) × (place ≡ Some m) × (n ≤ m)
+
+-- how many places the search has left at most
+abbrev pub places_left : Option ℕ → ℕ
+places_left None = 0
+places_left (Some n) = suc n
+
+module _ (hash_of : List ℕ → ℕ) (last_of : ℕ → Option ℕ) (before : List (Option ℕ)) (texts : List (List ℕ))
+    (index : IsTextIndex hash_of last_of before texts) where
+  -- the search starts at the last text with the hash
+  pub search_starts : (wanted : List ℕ) → IsSearchPlace hash_of wanted texts (last_of (hash_of wanted))
+  search_starts wanted = record {
+    has_hash = (index.last (hash_of wanted)).has_hash;
+    is_last = λ n at. (index.last (hash_of wanted)).is_last n wanted at refl;
+  }
+
+  -- at another text with the hash, the search goes on at the text before it with the same hash
+  pub search_goes_on : (wanted text : List ℕ) (n : ℕ) (place : Option ℕ)
+      → IsSearchPlace hash_of wanted texts (Some n) → slice_get texts n ≡ Some text
+      → bytes_eq text wanted ≡ false → slice_get before n ≡ Some place → IsSearchPlace hash_of wanted texts place
+  search_goes_on wanted text n place step at differs before_at = record {
+    has_hash = λ m e.
+        let found = earlier.has_hash m e in (found.0, get_take n texts m found.0 found.1, found.2 ∙ same_hash);
+    is_last = λ m at_m.
+        let found = step.is_last m at_m in
+        let not_here : (m ≡ n → ⊥) = λ here. absurd (true≢false
+        (sym ((bytes_eq-Decides text wanted).1 (same_Some text wanted (sym at ∙ ap (slice_get texts) (sym here) ∙ at_m)))
+        ∙ differs)) in
+        let bound : m ≤ n = omega (arith, same_Some n found.0 found.1, found.2) in
+        let within : m < n = omega (arith, bound, not_here) in
+        earlier.is_last m wanted (get_front n texts m within ∙ at_m) (sym same_hash);
+  }
+    where
+      earlier : IsLastWithHash hash_of (hash_of text) (take n texts) place
+      earlier = index.earlier n text place at before_at
+
+      same_hash : hash_of text ≡ hash_of wanted
+      same_hash =
+          let here = step.has_hash n refl in ap hash_of (same_Some text here.0 (sym at ∙ here.1)) ∙ here.2
+
+  -- each step of the search goes to an earlier place
+  pub search_place_is_smaller : (text : List ℕ) (n : ℕ) (place : Option ℕ) → slice_get texts n ≡ Some text
+      → slice_get before n ≡ Some place → places_left place < suc n
+  search_place_is_smaller text n None at before_at = omega arith
+  search_place_is_smaller text n (Some m) at before_at =
+      let found = (index.earlier n text (Some m) at before_at).has_hash m refl in
+      let within : m < length (take n texts) = slice_get_within (take n texts) m found.0 found.1 in
+      omega (arith, within, length-take n texts)
+
+-- if the search ends without a place, the text is not among the texts
+pub search_ends : (hash_of : List ℕ → ℕ) (wanted : List ℕ) (texts : List (List ℕ))
+    → IsSearchPlace hash_of wanted texts None → list_any (bytes_eq wanted) texts ≡ false
+search_ends hash_of wanted texts step = by _ refl
+  where
+    by : (b : Bool) → list_any (bytes_eq wanted) texts ≡ b → b ≡ false
     by false any = refl
     by true any =
-        let place = listed_text-from_any text texts any in
-        let both : Some place.0 ≡ None = sym ((numbers text place.0).1 place.1) ∙ sym is in
+        let place = listed_text-from_any wanted texts any in
+        let found = step.is_last place.0 place.1 in
+        let both : None ≡ Some found.0 = found.1 in
         absurd (cc)
 
--- a change that changes no number leaves the texts their numbers
-pub AreTextNumbers-same : (old new : List ℕ → Option ℕ) (texts : List (List ℕ)) → AreTextNumbers old texts
-    → ((text : List ℕ) → new text ≡ old text) → AreTextNumbers new texts
-AreTextNumbers-same old new texts numbers same text n =
-    (λ e. (numbers text n).0 (sym (same text) ∙ e), λ e. same text ∙ (numbers text n).1 e)
-
--- giving a text the number that it has changes no number
-pub same_text_number : (old new : List ℕ → Option ℕ) (text : List ℕ) (n : ℕ) → old text ≡ Some n
-    → ((other : List ℕ) → new other ≡ cond (bytes_eq text other) (Some n) (old other))
-    → (other : List ℕ) → new other ≡ old other
-same_text_number old new text n is sets other = by _ refl
+-- ---- changes
+-- a new text becomes the last one with its hash
+pub IsTextIndex-append : (hash_of : List ℕ → ℕ) (old new : ℕ → Option ℕ) (before : List (Option ℕ))
+    (texts : List (List ℕ)) (text : List ℕ) → IsTextIndex hash_of old before texts
+    → ((hash : ℕ) → new hash ≡ cond (nat_eq (hash_of text) hash) (Some (length texts)) (old hash))
+    → IsTextIndex hash_of new (before ++ old (hash_of text) ∷ []) (texts ++ text ∷ [])
+IsTextIndex-append hash_of old new before texts text index sets = record {
+  last = λ hash. last hash _ refl;
+  earlier = earlier;
+  each = omega (arith, index.each, length-append before (old (hash_of text) ∷ []), length-append texts (text ∷ []));
+}
   where
-    by : (b : Bool) → bytes_eq text other ≡ b → new other ≡ old other
-    by true same =
-        sets other ∙ ap (λ b. cond b (Some n) (old other)) same ∙ sym is ∙ ap old ((bytes_eq-Decides text other).0 same)
-    by false differ = sets other ∙ ap (λ b. cond b (Some n) (old other)) differ
+    last : (hash : ℕ) (b : Bool) → nat_eq (hash_of text) hash ≡ b
+        → IsLastWithHash hash_of hash (texts ++ text ∷ []) (new hash)
+    last hash true is =
+        let set : new hash ≡ Some (length texts) = sets hash ∙ ap (λ b. cond b (Some (length texts)) (old hash)) is in
+        record {
+          has_hash = λ n e. (
+            text,
+            subst (λ m. slice_get (texts ++ text ∷ []) m ≡ Some text) (same_Some _ _ (sym set ∙ e))
+                (at_length texts text []),
+            (Decides-eqb (hash_of text) hash).0 is,
+          );
+          is_last = λ n other at same.
+              let within : n < length (texts ++ text ∷ []) = slice_get_within _ n other at in
+              (length texts, set, omega (arith, within, length-append texts (text ∷ [])));
+        }
+    last hash false is =
+        let stays : new hash ≡ old hash = sets hash ∙ ap (λ b. cond b (Some (length texts)) (old hash)) is in record {
+          has_hash = λ n e.
+              let found = (index.last hash).has_hash n (sym stays ∙ e) in
+              (found.0, get_left texts (text ∷ []) n found.0 found.1, found.2);
+          is_last = λ n other at same. elim (get_pushed texts text n other at) [
+            | inl h ↦
+                let found = (index.last hash).is_last n other h same in (found.0, stays ∙ found.1, found.2)
+            | inr h ↦ absurd (true≢false
+                (sym ((Decides-eqb (hash_of text) hash).1 (ap hash_of h.1 ∙ same)) ∙ is))
+          ];
+        }
 
--- a new text gets the next number
-pub AreTextNumbers-append : (old new : List ℕ → Option ℕ) (texts : List (List ℕ)) (text : List ℕ)
-    → AreTextNumbers old texts → list_any (bytes_eq text) texts ≡ false
-    → ((other : List ℕ) → new other ≡ cond (bytes_eq text other) (Some (length texts)) (old other))
-    → AreTextNumbers new (texts ++ text ∷ [])
-AreTextNumbers-append old new texts text numbers absent sets other n = by _ refl
+    earlier : (n : ℕ) (other : List ℕ) (place : Option ℕ) → slice_get (texts ++ text ∷ []) n ≡ Some other
+        → slice_get (before ++ old (hash_of text) ∷ []) n ≡ Some place
+        → IsLastWithHash hash_of (hash_of other) (take n (texts ++ text ∷ [])) place
+    earlier n other place at before_at = elim (get_pushed texts text n other at) [
+      | inl h ↦
+          let within : n < length texts = slice_get_within texts n other h in
+          let bound : n ≤ length texts = omega (arith, within) in
+          elim (get_pushed before (old (hash_of text)) n place before_at) [
+            | inl g ↦ subst (λ front. IsLastWithHash hash_of (hash_of other) front place)
+                (sym (take-append-le n texts (text ∷ []) bound)) (index.earlier n other place h g)
+            | inr g ↦ absurd (omega (arith, within, g.0, index.each))
+          ]
+      | inr h ↦
+          let bound : n ≤ length texts = omega (arith, h.0) in
+          let all : length texts ≤ n = omega (arith, h.0) in
+          let front : take n (texts ++ text ∷ []) ≡ texts =
+          take-append-le n texts (text ∷ []) bound ∙ take_all n texts all in
+          let at_end : slice_get (before ++ old (hash_of text) ∷ []) n ≡ Some (old (hash_of text)) =
+          ap (slice_get (before ++ old (hash_of text) ∷ [])) (h.0 ∙ sym index.each)
+          ∙ at_length before (old (hash_of text)) [] in
+          let is : old (hash_of text) ≡ place = same_Some _ _ (sym at_end ∙ before_at) in
+          rw front (subst (λ last. IsLastWithHash hash_of (hash_of other) texts last) is
+          (subst (λ t. IsLastWithHash hash_of (hash_of t) texts (old (hash_of text))) h.1
+          (index.last (hash_of text))))
+    ]
+
+-- without the last text, the text before it with the same hash is the last one
+pub IsTextIndex-front : (hash_of : List ℕ → ℕ) (old new : ℕ → Option ℕ) (before : List (Option ℕ)) (place : Option ℕ)
+    (texts : List (List ℕ)) (text : List ℕ) → IsTextIndex hash_of old (before ++ place ∷ []) (texts ++ text ∷ [])
+    → ((hash : ℕ) → new hash ≡ cond (nat_eq (hash_of text) hash) place (old hash))
+    → IsTextIndex hash_of new before texts
+IsTextIndex-front hash_of old new before place texts text index sets = record {
+  last = λ hash. last hash _ refl;
+  earlier = λ n other at_place at before_at.
+      let within : n < length texts = slice_get_within texts n other at in
+      let bound : n ≤ length texts = omega (arith, within) in
+      subst (λ front. IsLastWithHash hash_of (hash_of other) front at_place) (take-append-le n texts (text ∷ []) bound)
+      (index.earlier n other at_place (get_left texts (text ∷ []) n other at)
+      (get_left before (place ∷ []) n at_place before_at));
+  each = each;
+}
   where
-    by : (b : Bool) → bytes_eq text other ≡ b
-        → (new other ≡ Some n → slice_get (texts ++ text ∷ []) n ≡ Some other)
-        × (slice_get (texts ++ text ∷ []) n ≡ Some other → new other ≡ Some n)
-    by true is =
-        let same : text ≡ other = (bytes_eq-Decides text other).0 is in
-        let set : new other ≡ Some (length texts) =
-        sets other ∙ ap (λ b. cond b (Some (length texts)) (old other)) is in (
-          λ e. subst (λ m. slice_get (texts ++ text ∷ []) m ≡ Some other) (same_Some _ _ (sym set ∙ e))
-              (at_length texts text [] ∙ ap Some same),
-          λ e. elim (get_pushed texts text n other e) [
-            | inl h ↦ absurd (true≢false (sym (listed_text_is_any text texts n (h ∙ ap Some (sym same))) ∙ absent))
-            | inr h ↦ set ∙ ap Some (sym h.0)
-          ],
-        )
-    by false is =
-        let stays : new other ≡ old other = sets other ∙ ap (λ b. cond b (Some (length texts)) (old other)) is in (
-          λ e. get_left texts (text ∷ []) n other ((numbers other n).0 (sym stays ∙ e)),
-          λ e. elim (get_pushed texts text n other e) [
-            | inl h ↦ stays ∙ (numbers other n).1 h
-            | inr h ↦ absurd (true≢false (sym ((bytes_eq-Decides text other).1 h.1) ∙ is))
-          ],
-        )
+    each : length before ≡ length texts
+    each = omega (arith, index.each, length-append before (place ∷ []), length-append texts (text ∷ []))
 
--- without the last text, the others have their numbers
-pub AreTextNumbers-front : (old new : List ℕ → Option ℕ) (texts : List (List ℕ)) (text : List ℕ)
-    → AreTextNumbers old (texts ++ text ∷ [])
-    → ((other : List ℕ) → new other ≡ cond (bytes_eq text other) None (old other))
-    → AreTextNumbers new texts
-AreTextNumbers-front old new texts text numbers sets other n = by _ refl
-  where
-    last : old text ≡ Some (length texts)
-    last = (numbers text (length texts)).1 (at_length texts text [])
+    at_end : IsLastWithHash hash_of (hash_of text) texts place
+    at_end =
+        let n = length texts in
+        let front : take n (texts ++ text ∷ []) ≡ texts =
+        take-append-le n texts (text ∷ []) (omega arith) ∙ take_all n texts (omega arith) in
+        let before_at : slice_get (before ++ place ∷ []) n ≡ Some place =
+        ap (slice_get (before ++ place ∷ [])) (sym each) ∙ at_length before place [] in
+        subst (λ front. IsLastWithHash hash_of (hash_of text) front place) front
+        (index.earlier n text place (at_length texts text []) before_at)
 
-    by : (b : Bool) → bytes_eq text other ≡ b
-        → (new other ≡ Some n → slice_get texts n ≡ Some other) × (slice_get texts n ≡ Some other → new other ≡ Some n)
-    by true is =
-        let same : text ≡ other = (bytes_eq-Decides text other).0 is in
-        let removed : new other ≡ None = sets other ∙ ap (λ b. cond b None (old other)) is in (
-          λ e. let both : None ≡ Some n = sym removed ∙ e in absurd (cc),
-          λ e.
-              let at : slice_get texts n ≡ Some text = e ∙ ap Some (sym same) in
-              let found : old text ≡ Some n = (numbers text n).1 (get_left texts (text ∷ []) n text at) in
-              let place : length texts ≡ n = same_Some _ _ (sym last ∙ found) in
-              let within : n < length texts = slice_get_within texts n text at in
-              absurd (omega arith),
-        )
-    by false is =
-        let stays : new other ≡ old other = sets other ∙ ap (λ b. cond b None (old other)) is in (
-          λ e. elim (get_pushed texts text n other ((numbers other n).0 (sym stays ∙ e))) [
-            | inl h ↦ h
-            | inr h ↦ absurd (true≢false (sym ((bytes_eq-Decides text other).1 h.1) ∙ is))
-          ],
-          λ e. stays ∙ (numbers other n).1 (get_left texts (text ∷ []) n other e),
-        )
+    last : (hash : ℕ) (b : Bool) → nat_eq (hash_of text) hash ≡ b → IsLastWithHash hash_of hash texts (new hash)
+    last hash true is =
+        let set : new hash ≡ place = sets hash ∙ ap (λ b. cond b place (old hash)) is in
+        subst (λ p. IsLastWithHash hash_of hash texts p) (sym set)
+        (subst (λ h. IsLastWithHash hash_of h texts place) ((Decides-eqb (hash_of text) hash).0 is) at_end)
+    last hash false is =
+        let stays : new hash ≡ old hash = sets hash ∙ ap (λ b. cond b place (old hash)) is in record {
+          has_hash = λ n e.
+              let found = (index.last hash).has_hash n (sym stays ∙ e) in
+              elim (get_pushed texts text n found.0 found.1) [
+                | inl h ↦ (found.0, h, found.2)
+                | inr h ↦ absurd (true≢false
+                    (sym ((Decides-eqb (hash_of text) hash).1 (ap hash_of h.1 ∙ found.2)) ∙ is))
+              ];
+          is_last = λ n other at same.
+              let found = (index.last hash).is_last n other (get_left texts (text ∷ []) n other at) same in
+              (found.0, stays ∙ found.1, found.2);
+        }
 
--- a query for another key finds the same before and after a change
-other_text_keeps_lookup : {K X : Type 0} (eq : K → K → Bool) (test : K → Bool) (old new : List (K × X))
-    → KeepsOthers eq test old new → (other : K → Bool) → IsKeyTest eq other → AreApart test other
-    → lookup other new ≡ lookup other old
-unfolding KeepsOthers
-other_text_keeps_lookup eq test old new keeps = keeps
-
--- a lookup by text finds a key of the text, or nothing
-text_number_key : (Y : Type 0) (entries : List (Vec ℕ Y × ℕ)) (text : List ℕ) (n : ℕ)
-    → lookup (λ key. bytes_eq text key.items) entries ≡ Some n → (key : Vec ℕ Y) × (key.items ≡ text)
-text_number_key Y [] text n e = absurd (cc)
-text_number_key Y (entry ∷ entries) text n e = by _ refl (text_number_key Y entries text n)
-  where
-    by : (b : Bool) → bytes_eq text entry.0.items ≡ b
-        → (lookup (λ key. bytes_eq text key.items) entries ≡ Some n → (key : Vec ℕ Y) × (key.items ≡ text))
-        → (key : Vec ℕ Y) × (key.items ≡ text)
-    by true is later = (entry.0, sym ((bytes_eq-Decides text entry.0.items).0 is))
-    by false is later =
-        later (sym (ap (λ b. cond b (Some entry.1) (lookup (λ key. bytes_eq text key.items) entries)) is) ∙ e)
-
-module _ {Y S : Type 0} where
-  -- if each key has the same number in two maps, so has each text
-  pub text_number-same : (old new : HashMap (Vec ℕ Y) ℕ S)
-      → ((key : Vec ℕ Y) → text_number new key.items ≡ text_number old key.items)
-      → (text : List ℕ) → text_number new text ≡ text_number old text
-  text_number-same old new same text = by _ _ refl refl
-    where
-      at : (key : Vec ℕ Y) × (key.items ≡ text) → text_number new text ≡ text_number old text
-      at key = subst (λ t. text_number new t ≡ text_number old t) key.1 (same key.0)
-
-      by : (m n : Option ℕ) → text_number new text ≡ m → text_number old text ≡ n
-          → text_number new text ≡ text_number old text
-      by None None e f = e ∙ sym f
-      by None (Some n) e f = at (text_number_key Y old.entries text n f)
-      by (Some m) n e f = at (text_number_key Y new.entries text m e)
-
-  -- a change at a key of a map changes the number of its text only
-  pub text_number-updated : (old new : HashMap (Vec ℕ Y) ℕ S) (text : List ℕ) (number : Option ℕ)
-      → UpdatesBy (λ a b. bytes_eq a.items b.items) (λ key. bytes_eq text key.items) old new number
-      → (other : List ℕ) → text_number new other ≡ cond (bytes_eq text other) number (text_number old other)
-  text_number-updated old new text number updates other = by _ refl
-    where
-      apart : bytes_eq text other ≡ false → (key : Vec ℕ Y) → bytes_eq text key.items ≡ true
-          → bytes_eq other key.items ≡ false
-      apart differ key is = nat_list_eq_equiv.symm other key.items
-          ∙ sym (nat_list_eq_equiv.congr text key.items other is)
-          ∙ differ
-
-      by : (b : Bool) → bytes_eq text other ≡ b
-          → text_number new other ≡ cond (bytes_eq text other) number (text_number old other)
-      by true is = rw is (subst (λ t. text_number new t ≡ number) ((bytes_eq-Decides text other).0 is) updates.1)
-      by false is =
-          rw is (other_text_keeps_lookup _ _ _ _ updates.3 (λ key. bytes_eq other key.items)
-          (λ a b. nat_list_eq_equiv.congr other a.items b.items) (apart is))
-
--- the fact of a successful insertion holds if the insertion gave no error
-pub text_insertion_fact : {T E P : Type 0} (result : Result T E) → is_err result ≡ false → OnOk result P → P
-text_insertion_fact (Ok v) is fact = fact
-text_insertion_fact (Err e) is fact = absurd (true≢false is)
+-- an index does not depend on how the numbers are stored
+pub IsTextIndex-same : (hash_of : List ℕ → ℕ) (old new : ℕ → Option ℕ) (before : List (Option ℕ))
+    (texts : List (List ℕ)) → IsTextIndex hash_of old before texts → ((hash : ℕ) → new hash ≡ old hash)
+    → IsTextIndex hash_of new before texts
+IsTextIndex-same hash_of old new before texts index same = record {
+  last = λ hash. subst (λ last. IsLastWithHash hash_of hash texts last) (sym (same hash)) (index.last hash);
+  earlier = index.earlier;
+  each = index.each;
+}

@@ -1,4 +1,5 @@
 pub mod Growing
+pub mod HashedParts
 pub mod IndexedTextLemmas
 pub mod NamedTextColumns
 pub mod Names

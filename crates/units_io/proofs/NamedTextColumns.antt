@@ -74,16 +74,6 @@ HasNoTextOfName-from_names (x ∷ xs) (y ∷ ys) name none =
       later (sym (ap (λ b. b || list_any (bytes_eq name) xs) is) ∙ none),
     )
 
--- if no pair has a name, no name passes the test for it
-pub names_any-HasNoTextOfName : (names values : List (List ℕ)) (name : List ℕ) → length values ≡ length names
-    → HasNoTextOfName (zip names values) name → list_any (bytes_eq name) names ≡ false
-names_any-HasNoTextOfName [] values name even none = refl
-names_any-HasNoTextOfName (x ∷ xs) [] name even none = absurd (cc)
-names_any-HasNoTextOfName (x ∷ xs) (y ∷ ys) name even none =
-    let rest : length ys ≡ length xs = cc in
-    ap (λ b. b || list_any (bytes_eq name) xs) (ne_bytes_eq name x (λ same. none.0 (sym same)))
-    ∙ names_any-HasNoTextOfName xs ys name rest none.1
-
 -- a name at a place is the name of a pair
 named_columns_have_name : (names values : List (List ℕ)) (name : List ℕ) (i : ℕ) → length values ≡ length names
     → slice_get names i ≡ Some name → HasNoTextOfName (zip names values) name → ⊥

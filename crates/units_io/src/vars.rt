@@ -70,10 +70,7 @@ impl Vars {
         ensures err { OnErr result (self.new ≡ self.old) }
     {
         let (name, value) = item;
-        self.names.reserve(1, name.as_bytes().len())?;
-        self.values.push(value)?;
-        self.names.append(name);
-        Ok(())
+        self.push_value(name.as_bytes(), value)
     }
 
     /// Appends a copy of a pair whose name is new. On an error nothing changes.
@@ -87,9 +84,20 @@ impl Vars {
         ensures ok { OnOk result (self.new ≡ self.old ++ (name.now, value.now) ∷ []) }
         ensures err { OnErr result (self.new ≡ self.old) }
     {
-        let name = Text::from_bytes(alloc, name)?;
         let value = Text::from_bytes(alloc, value)?;
-        self.push(alloc, (name, value))
+        self.push_value(name, value)
+    }
+
+    // Appends the value of a name that is new. On an error nothing changes.
+    fn push_value(&mut self, name: &[u8], value: Text) -> Result<(), AllocError>
+        requires { HasNoTextOfName self.old name.now }
+        ensures ok { OnOk result (self.new ≡ self.old ++ (name.now, value) ∷ []) }
+        ensures err { OnErr result (self.new ≡ self.old) }
+    {
+        self.names.reserve(1, name.len())?;
+        self.values.push(value)?;
+        self.names.append(name);
+        Ok(())
     }
 
     /// Sets the value of a name: replaces the current value if the name has one, and appends a new pair otherwise. On

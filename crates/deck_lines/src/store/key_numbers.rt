@@ -100,7 +100,7 @@ impl KeyNumbers {
         ensures number { key_numbered (key_number_names_in self.new) result ≡ Some key }
     {
         let kind = key.kind;
-        let name = key.into_name();
+        let name = key.name.as_bytes();
         let number = match kind {
             Kind::Unit => self.units.put(name),
             Kind::Prefix => self.prefixes.put(name),

@@ -9,7 +9,7 @@ ghost use Rattle.deck_lines.specs.Names.{key_number_names_with_name};
 
 use std::alloc::{AllocError, Global};
 use std::marker::Model;
-use units_io::{HashSeed, Text, TextIndex};
+use units_io::{HashSeed, TextIndex};
 
 /// A set of names. Each name is numbered by how many names were added before it.
 pub(crate) struct NameSet {
@@ -91,12 +91,12 @@ impl NameSet {
     }
 
     /// Gives a name the next number, unless it has a number, and returns its number. Allocates no memory.
-    pub fn put(&mut self, name: Text) -> usize
-        requires { HasTextRoom (length name) self.old }
-        ensures names { self.new.texts ≡ key_number_names_with_name name self.old.texts }
-        ensures number { slice_get self.new.texts result ≡ Some name }
+    pub fn put(&mut self, name: &[u8]) -> usize
+        requires { HasTextRoom (length name.now) self.old }
+        ensures names { self.new.texts ≡ key_number_names_with_name name.now self.old.texts }
+        ensures number { slice_get self.new.texts result ≡ Some name.now }
     {
-        self.longest = self.longest.max(name.as_bytes().len());
+        self.longest = self.longest.max(name.len());
         self.names.put(name)
     }
 }

@@ -7,20 +7,20 @@ use Rattle.live_table.proofs.key_index.KeyIndex.insert.Goals as goal
 pub returns-clause-ok : goal.returns-clause-ok
 returns-clause-ok c =
     new_node_key_gets_number (vec_capacity c.self.inside.wanted) c.self.inside.keys.texts c.put.new.self.texts
-    c.args.self.now (key c.args.kind c.args.name.now) c.in_ok-bytes.bytes c.self.invariant c.self.view_is
-    (c.in_ok-bytes.ensures ∙ c.deref.ensures.value ∙ c.in_ok-overwrite.ensures.ok) c.requires
-    (c.put.ensures.texts ∙ ap (with_indexed_text c.in_ok-bytes.bytes) c.reserve.ensures.texts)
+    c.args.self.now (key c.args.kind c.args.name.now) c.deref.result.now c.self.invariant c.self.view_is
+    (c.deref.ensures.value ∙ c.in_ok-overwrite.ensures.ok) c.requires
+    (c.put.ensures.texts ∙ ap (with_indexed_text c.deref.result.now) c.reserve.ensures.texts)
     c.put.result c.put.ensures.number
 
 pub invariant_of-self-2 : goal.invariant_of-self-2
 invariant_of-self-2 c =
-    let fits : length c.in_ok-bytes.bytes ≤ vec_capacity c.overwrite.new.bytes = omega (
+    let fits : length c.deref.result.now ≤ vec_capacity c.overwrite.new.bytes = omega (
       arith,
-      ap length (c.in_ok-bytes.ensures ∙ c.deref.ensures.value),
+      ap length c.deref.ensures.value,
       c.overwrite.new.bytes.ok.0,
     ) in
     node_keys_with_new_key_fit (vec_capacity c.self.inside.wanted) c.self.inside.keys.texts c.put.new.self.texts
-    c.args.self.now (key c.args.kind c.args.name.now) c.in_ok-bytes.bytes c.self.invariant c.self.view_is
-    (c.in_ok-bytes.ensures ∙ c.deref.ensures.value ∙ c.in_ok-overwrite.ensures.ok) c.requires
-    (c.put.ensures.texts ∙ ap (with_indexed_text c.in_ok-bytes.bytes) c.reserve.ensures.texts)
+    c.args.self.now (key c.args.kind c.args.name.now) c.deref.result.now c.self.invariant c.self.view_is
+    (c.deref.ensures.value ∙ c.in_ok-overwrite.ensures.ok) c.requires
+    (c.put.ensures.texts ∙ ap (with_indexed_text c.deref.result.now) c.reserve.ensures.texts)
     (vec_capacity c.overwrite.new.bytes) c.overwrite.ensures.room fits

@@ -7,5 +7,5 @@ pub invariant_of-self : goal.invariant_of-self
 invariant_of-self c =
     let names = c.self.inside.names.texts in
     subst (AreKeyNamesUpTo c.max-self-inside.result) (sym c.put.ensures.texts)
-    (AreUpTo-with_name c.max-self-inside.result c.args.name names (search rules)
+    (AreUpTo-with_name c.max-self-inside.result c.args.name.now names (search rules)
     (AreUpTo-more c.self.inside.longest c.max-self-inside.result names (search rules) c.self.invariant))
