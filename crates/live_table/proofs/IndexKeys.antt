@@ -1,5 +1,5 @@
 -- Keys in the form of bytes, by number.
-use Rattle.std.proofs.Common.{◌≡◌, ◌≤◌, ◌||◌, ◌&&◌, ℕ, suc, Bool, true, false, not, cond, eqb, List, [], ◌∷◌, ◌++◌}
+use Rattle.std.proofs.Common.{◌≡◌, ◌≤◌, ◌||◌, ◌&&◌, ℕ, suc, Bool, true, false, cond, eqb, List, [], ◌∷◌, ◌++◌}
 use Rattle.std.proofs.Common.{length, Option, Some, None, option_map, refl, sym, ◌∙◌, ap, arith}
 use Rattle.std.specs.Prelude.{MatchOption}
 use Rattle.std.specs.List.{All, list_any, slice_get}
@@ -137,10 +137,3 @@ module _ (room : ℕ) (ss more : List (List ℕ)) (old : List Key) (k : Key) (by
           ∙ (λ i. was i ++ (ap decoded_node_key is ∙ node_key_bytes_encode_key k) i ∷ []),
     );
   }
-
--- a key that had no number is appended
-pub new_node_key_is_appended : (k : Key) (old new : List Key) (n : ℕ) (is_new : Bool)
-    → IsNodeKeyAdded k old new n is_new → not is_new ≡ false
-    → (is_entry_key_among old k ≡ false) × (new ≡ old ++ k ∷ [])
-new_node_key_is_appended k old new n true is e = is.keys
-new_node_key_is_appended k old new n false is e = absurd (cc)
