@@ -165,7 +165,7 @@ def check_quickly(crates: list[str]) -> tuple[Result, list[str]]:
 
 def check_all() -> tuple[Result, list[str]]:
     print("bin/test: proves every crate, tries the edits that must be refused, and runs every check.")
-    print("70 to 150 processor minutes from nothing (35 to 80 by the clock on four), 4 to 10 if proofs are kept", flush=True)
+    print("70 processor minutes from nothing on a fast machine (34 by the clock), 4 if proofs are kept", flush=True)
     total = prove(ROOT, [], result_of_proofs)
     failures = ["proofs"] if total.failed else []
     minutes = [processor_minutes()]
