@@ -36,6 +36,16 @@ expect() {
     fi
 }
 
+# expect_with_proc: like expect, for a case that needs /proc: a name of a stream, or a save over an existing file.
+expect_with_proc() {
+    if [ -e /proc/self/mem ]; then
+        expect "$@"
+    else
+        echo "check_statuses: skipped without /proc: $4"
+        skipped=$((skipped + 1))
+    fi
+}
+
 # hear TEXT: the session writes this next.
 hear() {
     local heard
@@ -113,14 +123,15 @@ expect 7 $'line too long\n' '' "{ head -c 4294967289 /dev/zero; printf '\\n1 ft\
 cp first.units locked.units
 chmod 000 locked.units
 if [ -r locked.units ]; then locked=/proc/self/mem; else locked=locked.units; fi
-expect 4 '' '' "units --exact -f $locked yd m"
-expect 4 $'\t* 72\n\t/ 0.013888889\n' '' \
+expect_with_proc 4 '' '' "units --exact -f $locked yd m"
+expect_with_proc 4 $'\t* 72\n\t/ 0.013888889\n' '' \
     "{ printf '2 yd\\nin\\n'; sleep 0.2; printf ':load $locked\\nm\\n\\n'; } | units -q -f first.units"
 expect 4 '' '' "units -q -f first.units < ."
 
 # Saves that fail: to a folder, into a missing folder, into one that takes no files, and to a device.
 for name in . gone/s.units /proc/s.units /dev/full; do
-    expect 5 $'\t* 72\n\t/ 0.013888889\n' '' "printf '2 yd\\nin\\n:save $name\\nm\\n\\n' | units -q -f first.units"
+    if [ "${name#/proc}" = "$name" ]; then try=expect; else try=expect_with_proc; fi
+    $try 5 $'\t* 72\n\t/ 0.013888889\n' '' "printf '2 yd\\nin\\n:save $name\\nm\\n\\n' | units -q -f first.units"
 done
 
 # Names of files that do not exist, and of a folder and a name below a file, which cannot be read.
@@ -139,7 +150,7 @@ done
 
 # A new file is saved, and saved again under another name. A file that another run left there stays.
 printf 'left by another run' > files/.units-save-0
-expect 0 $'m !\ng 3 m\nh 4 m\n.units-save-0\ninner\nnew\nplain\nleft by another run' '' \
+expect_with_proc 0 $'m !\ng 3 m\nh 4 m\n.units-save-0\ninner\nnew\nplain\nleft by another run' '' \
     "printf ':define g 3 m\\n:save files/new\\n:define h 4 m\\n:save ./files/new\\n' | units -q -f files/plain \
     && cat files/new && LC_ALL=C ls -A files && cat files/.units-save-0"
 
@@ -147,21 +158,46 @@ expect 0 $'m !\ng 3 m\nh 4 m\n.units-save-0\ninner\nnew\nplain\nleft by another 
 printf 'm !\n' > kept.units
 ln -s kept.units near.units
 ln -s near.units nearer.units
-expect 0 $'m !\ng 3 m\n' '' "printf ':define g 3 m\\n:save nearer.units\\n' | units -q -f kept.units \
+expect_with_proc 0 $'m !\ng 3 m\n' '' "printf ':define g 3 m\\n:save nearer.units\\n' | units -q -f kept.units \
     && [ -L nearer.units ] && [ -L near.units ] && cat kept.units"
+
+# A save through links that lead to no file creates that file, and keeps the links. In a folder that does not exist, or
+# through a ring of links, it fails and changes nothing.
+mkdir far
+ln -s far/hop.units dangling.units
+ln -s new.units far/hop.units
+expect_with_proc 0 $'m !\ng 3 m\n' '' "echo ':save dangling.units' | units -q -f kept.units \
+    && [ -L dangling.units ] && [ -L far/hop.units ] && cat far/new.units"
+ln -s gone/new.units far/lost.units
+ln -s ring.units ring.units
+for name in far/lost.units ring.units; do
+    expect_with_proc 5 $'far/hop.units\nfar/lost.units\nfar/new.units\n' '' "echo ':save $name' | units -q -f kept.units
+        status=\$?; [ -L $name ] && LC_ALL=C ls -d far/*; exit \$status"
+done
+
+# A save over a file creates the new one for its owner alone, so that nobody else can open it before it has the
+# permissions of the old one.
+if command -v strace > /dev/null; then
+    chmod 600 kept.units
+    expect_with_proc 0 $'0600\n600\n' '' "echo ':save kept.units' | strace -qq -o calls -e trace=open,openat \"\$program\" -q -f kept.units \
+        && sed -n 's/.*units-save.*, \\(0[0-7]*\\)).*/\\1/p' calls && stat -c %a kept.units"
+else
+    echo 'check_statuses: skipped without strace: 1 case'
+    skipped=$((skipped + 1))
+fi
 
 # A save keeps the permissions of the file, but not the set-user-ID and set-group-ID bits.
 chmod 6750 kept.units
-expect 0 $'750\n' '' "echo ':save kept.units' | units -q -f kept.units && stat -c %a kept.units"
+expect_with_proc 0 $'750\n' '' "echo ':save kept.units' | units -q -f kept.units && stat -c %a kept.units"
 
 # A save to a stream of the run is refused under each of its names, and its contents are not lost.
 ln -s /dev/stdout stream
 for name in out.txt ./err.txt /proc/self/fd/1 //dev/stdout stream; do
-    expect 5 $'\t* 72\n\t/ 0.013888889\n' '' "printf '2 yd\\nin\\n:save $name\\nm\\n' | units -q -f first.units"
+    expect_with_proc 5 $'\t* 72\n\t/ 0.013888889\n' '' "printf '2 yd\\nin\\n:save $name\\nm\\n' | units -q -f first.units"
 done
 
 # A closed stream is not a file.
-expect 0 '' '' "echo ':save kept.units' | units -q -f kept.units >&-"
+expect_with_proc 0 '' '' "echo ':save kept.units' | units -q -f kept.units >&-"
 
 # Without /proc, any file may be a stream of the run, so only a new file can be saved. If check_static.sh runs the
 # program in another root folder, OTHER_ROOT is that folder, and its /proc is unmounted too.
@@ -171,11 +207,11 @@ if unshare -m umount -l /proc 2> /dev/null; then
     expect 0 $'m !\ng 3 m\n' '' "echo ':save fresh.units' | $alone && cat fresh.units"
 else
     echo 'check_statuses: skipped without the right to unmount /proc: 2 cases'
-    skipped=2
+    skipped=$((skipped + 2))
 fi
 
 # Definitions that arrive through a pipe in several blocks.
-expect 0 $'\t* 3\n\t/ 0.33333333\n' '' \
+expect_with_proc 0 $'\t* 3\n\t/ 0.33333333\n' '' \
     "{ echo 'm !'; seq -f 'u_%.0f 2 m' 30000; echo 'last 3 m'; } | units -f /dev/stdin last m"
 
 # Sinks that are closed, and one that is full.
