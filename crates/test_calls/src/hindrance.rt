@@ -1,7 +1,10 @@
 //! A reader and a writer that fail once.
 
+ghost use Rattle.std.specs.Prelude.{refl};
+
 use std::io;
 use std::io::{ErrorKind, Read, Write};
+use units_io::{SteadyRead, SteadyWrite};
 
 // A reader and a writer of one byte per call, whose second call returns this error.
 #[derive(Drop)]
@@ -46,4 +49,13 @@ impl Write for Hindered {
     fn flush(&mut self) -> io::Result<()> {
         Ok(())
     }
+}
+
+// No contract states the bytes of these two.
+impl SteadyRead for Hindered {
+    ghost read_steady = { λ _ _ _. refl };
+}
+
+impl SteadyWrite for Hindered {
+    ghost write_steady = { λ _ _ _. refl };
 }

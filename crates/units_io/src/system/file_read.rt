@@ -2,11 +2,11 @@
 ghost use Rattle.std.specs.Prelude.{◌≤◌, ◌+◌, length, vec_len, IfOk};
 ghost use Rattle.units_io.specs.FileMap.{longest_file};
 
-use super::source::read_some;
 use crate::files::{FetchFault, LONGEST_FILE};
 use crate::text::Text;
 use std::alloc::{AllocError, Global};
 use std::fs::{File, OpenFile};
+use std::io;
 use std::io::{ErrorKind, Read};
 use std::rt::Files;
 
@@ -69,6 +69,19 @@ fn read_behind<F: Read>(file: &mut F, bytes: &mut Vec<u8>, end: usize) -> Result
         Err(e) if e.kind() == ErrorKind::OutOfMemory => Err(FetchFault::OutOfMemory),
         Err(_) => Err(FetchFault::Failed),
     }
+}
+
+// Reads once, and retries if a signal interrupted the read.
+fn read_some<F: Read>(file: &mut F, buf: &mut [u8]) -> io::Result<usize>
+    ensures { IfOk result (λ n. n ≤ length buf.new) }
+{
+    for _ in 0..u64::MAX {
+        match file.read(buf) {
+            Err(e) if e.kind() == ErrorKind::Interrupted => {}
+            answer => return answer,
+        }
+    }
+    Err(io::Error::from(ErrorKind::Interrupted))
 }
 
 // Ensures that at least one block is free after `end`. The buffer grows by the amount read so far or by a block,

@@ -1,32 +1,34 @@
-//! A std reader as a source.
-ghost use Rattle.std.specs.Prelude.{◌≡◌, ◌≤◌, ◌<◌, ◌+◌, ◌-◌, ◌^◌, length, min, IfOk, MatchResult, None};
+//! A reader of the standard library as a source.
+ghost use Rattle.std.specs.Prelude.{◌≡◌, ◌≤◌, ◌<◌, ◌+◌, ◌-◌, ◌^◌, length, take, min, IfOk, OnErr, MatchResult};
+ghost use Rattle.units_io.specs.Bytes.{IsNoSourceByteLeft, LosesSourceBytes};
 ghost use Rattle.units_io.specs.Faults.{HasIoFailureCause, next_io_count};
 
+use super::steady::SteadyRead;
 use crate::source::{Failed, Source};
 use std::io;
-use std::io::{ErrorKind, Read};
+use std::io::ErrorKind;
 use std::marker::Model;
 
 /// A reader as a source that counts the bytes taken and the failed reads.
 #[derive(Drop)]
-pub struct StdSource<R> {
+pub struct StdSource<R: SteadyRead> {
     reader: R,
     taken: u64,
     faults: u64,
 }
 
-impl<R> Model for StdSource<R> {
-    ghost use Rattle.units_io.specs.Counts.{SourceCounts};
+impl<R: SteadyRead> Model for StdSource<R> {
+    ghost use Rattle.units_io.specs.StreamStates.{ReaderState};
 
-    ghost Value = { SourceCounts };
+    ghost Value = { ReaderState };
 
-    ghost view = { λ s. record { taken_count = s.taken; faults = s.faults } };
+    ghost view = { λ s. record { bytes_left = R.remaining s.reader; taken_count = s.taken; faults = s.faults } };
 }
 
-impl<R: Read + Drop> StdSource<R> {
+impl<R: SteadyRead + Drop> StdSource<R> {
     /// Wraps this reader, with no byte taken and no failure counted.
     pub fn new(reader: R) -> StdSource<R>
-        ensures { result ≡ record { taken_count = 0; faults = 0 } }
+        ensures { result ≡ record { bytes_left = R.remaining reader; taken_count = 0; faults = 0 } }
     {
         StdSource {
             reader,
@@ -36,8 +38,8 @@ impl<R: Read + Drop> StdSource<R> {
     }
 }
 
-impl<R: Read + Drop> Source for StdSource<R> {
-    ghost left = { λ _. None };
+impl<R: SteadyRead + Drop> Source for StdSource<R> {
+    ghost left = { λ s. s.bytes_left };
 
     ghost taken = { λ s. s.taken_count };
 
@@ -46,6 +48,9 @@ impl<R: Read + Drop> Source for StdSource<R> {
     fn take(&mut self, buf: &mut [u8]) -> Result<usize, Failed>
         requires { 0 < length buf.old }
         ensures within { IfOk result (λ n. n ≤ length buf.new) }
+        ensures bytes { IfOk result (λ n. LosesSourceBytes self.old.bytes_left self.new.bytes_left (take n buf.new)) }
+        ensures end { IfOk result (λ n. n ≡ 0 → IsNoSourceByteLeft self.old.bytes_left) }
+        ensures kept { OnErr result (self.new.bytes_left ≡ self.old.bytes_left) }
         ensures count { MatchResult result
             (λ n. self.new.taken_count ≡ min (self.old.taken_count + n) (2 ^ 64 - 1))
             (λ _. self.new.taken_count ≡ self.old.taken_count) }
@@ -67,14 +72,31 @@ impl<R: Read + Drop> Source for StdSource<R> {
 }
 
 // Reads once, and retries if a signal interrupted the read.
-pub(super) fn read_some<R: Read>(reader: &mut R, buf: &mut [u8]) -> io::Result<usize>
-    ensures { IfOk result (λ n. n ≤ length buf.new) }
+fn read_some<R: SteadyRead>(reader: &mut R, buf: &mut [u8]) -> io::Result<usize>
+    requires { 0 < length buf.old }
+    ensures within { IfOk result (λ n. n ≤ length buf.new) }
+    ensures read { MatchResult result
+        (λ n. LosesSourceBytes (R.remaining reader.old) (R.remaining reader.new) (take n buf.new))
+        (λ _. R.remaining reader.new ≡ R.remaining reader.old) }
+    ensures end { IfOk result (λ n. n ≡ 0 → IsNoSourceByteLeft (R.remaining reader.old)) }
 {
     for _ in 0..u64::MAX {
-        match reader.read(buf) {
+        match read_once(reader, buf) {
             Err(e) if e.kind() == ErrorKind::Interrupted => {}
             answer => return answer,
         }
     }
     Err(io::Error::from(ErrorKind::Interrupted))
+}
+
+// Reads once.
+fn read_once<R: SteadyRead>(reader: &mut R, buf: &mut [u8]) -> io::Result<usize>
+    requires { 0 < length buf.old }
+    ensures within { IfOk result (λ n. n ≤ length buf.new) }
+    ensures read { MatchResult result
+        (λ n. LosesSourceBytes (R.remaining reader.old) (R.remaining reader.new) (take n buf.new))
+        (λ _. R.remaining reader.new ≡ R.remaining reader.old) }
+    ensures end { IfOk result (λ n. n ≡ 0 → IsNoSourceByteLeft (R.remaining reader.old)) }
+{
+    reader.read(buf)
 }
