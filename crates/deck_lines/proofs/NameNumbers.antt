@@ -1,14 +1,64 @@
 -- Names and their numbers.
-use Rattle.std.proofs.Common.{◌≡◌, ◌++◌, ◌∷◌, ◌||◌, [], ℕ, zero, suc, List, Bool, true, false, true≢false}
-use Rattle.std.proofs.Common.{cond, length, refl, sym, ap, subst, ◌∙◌, inl, inr, arith, Some, slice_get, ◌<◌, ◌≤◌}
-use Rattle.std.specs.List.{list_any}
+use Rattle.std.proofs.Common.{◌≡◌, ◌++◌, ◌∷◌, ◌+◌, ◌||◌, [], ℕ, zero, suc, List, Bool, true, false, true≢false, not}
+use Rattle.std.proofs.Common.{cond, length, map, refl, sym, ap, subst, ◌∙◌, inl, inr, arith, Option, Some, None}
+use Rattle.std.proofs.Common.{option_map, slice_get, get_or, ◌<◌, ◌≤◌}
+use Rattle.std.specs.Prelude.{MatchOption, is_some}
+use Rattle.std.specs.List.{list_any, position, position_or_len}
 use Rattle.std.specs.Str.{bytes_eq}
 use Rattle.std.specs.Cmp.Lexicographic.{bytes_decides}
-use Rattle.std.proofs.lemmas.Option.{same_Some}
+use Rattle.std.proofs.lemmas.List.{map-append}
+use Rattle.std.proofs.lemmas.List.Quantifiers.{position-Some}
+use Rattle.std.proofs.lemmas.Option.{same_Some, slice_get-get_or, slice_get-map}
 use Rattle.std.proofs.lemmas.Slice.Eq.{bytes_eq-Decides}
+use Rattle.indexmap.specs.IndexSet.{insert_key}
 use Rattle.deck_lines.specs.Names.{key_number_names_with_name}
 use Rattle.deck_lines.specs.NumberedNames.{AreKeyNamesUpTo}
 use Rattle.general_lemmas.proofs.Places.{get_pushed}
+
+module _ {K : Type 0} (items : K → List ℕ) (name : List ℕ) where
+  -- a name is among the names of keys exactly if a key has this name
+  pub any_seen : (ks : List K) → list_any (bytes_eq name) (map items ks) ≡ list_any (λ k. bytes_eq name (items k)) ks
+  any_seen [] = refl
+  any_seen (k ∷ ks) = ap (λ b. bytes_eq name (items k) || b) (any_seen ks)
+
+  -- the place of a name among the names of keys is the place of the first key with this name
+  pub place_seen : (ks : List K)
+      → position_or_len (bytes_eq name) (map items ks) ≡ position_or_len (λ k. bytes_eq name (items k)) ks
+  place_seen [] = refl
+  place_seen (k ∷ ks) = ap (λ n. cond (not (bytes_eq name (items k))) (1 + n) 0) (place_seen ks)
+
+-- inserting a key inserts its name
+pub key_number_put_inserts_name : {K : Type 0} (items : K → List ℕ) (k : K) (ks : List K) →
+    map items (insert_key (λ a b. bytes_eq (items a) (items b)) ks k) ≡ key_number_names_with_name (items k)
+    (map items ks)
+key_number_put_inserts_name items k ks =
+    by (list_any (λ a. bytes_eq (items k) (items a)) ks)
+    ∙ ap (λ b. cond b (map items ks) (map items ks ++ items k ∷ [])) (sym (any_seen items (items k) ks))
+  where
+    by : (b : Bool) → map items (cond b ks (ks ++ k ∷ [])) ≡ cond b (map items ks) (map items ks ++ items k ∷ [])
+    by true = refl
+    by false = map-append items ks (k ∷ [])
+
+-- a name that is found is at its place among the names
+pub key_number_of_found_name : {K : Type 0} (items : K → List ℕ) (name : List ℕ) (ks : List K) (i : ℕ) →
+    position (λ k. bytes_eq name (items k)) ks ≡ Some i → slice_get (map items ks) i ≡ Some name
+key_number_of_found_name items name [] i e = absurd (cc)
+key_number_of_found_name items name (k ∷ ks) i e =
+    let at = position-Some (λ a. bytes_eq name (items a)) (k ∷ ks) i k e in
+    slice_get-map items (k ∷ ks) i ∙ ap (option_map items) (slice_get-get_or (k ∷ ks) i k at.0)
+    ∙ ap Some (sym ((bytes_eq-Decides name (items (get_or (k ∷ ks) i k))).0 at.1))
+
+-- the result of a lookup of a name
+pub key_number_of_name_lookup : {K : Type 0} (items : K → List ℕ) (name : List ℕ) (ks : List K) (r : Option ℕ)
+    (names : List (List ℕ))
+    → map items ks ≡ names →
+    r ≡ position (λ k. bytes_eq name (items k)) ks → is_some r ≡ list_any (λ k. bytes_eq name (items k)) ks →
+    MatchOption r (list_any (bytes_eq name) names ≡ false) (λ n. slice_get names n ≡ Some name)
+key_number_of_name_lookup items name ks None names e at found = ap (list_any (bytes_eq name)) (sym e)
+    ∙ any_seen items name ks
+    ∙ sym found
+key_number_of_name_lookup items name ks (Some n) names e at found = ap (λ l. slice_get l n) (sym e)
+    ∙ key_number_of_found_name items name ks n (sym at)
 
 -- a name that is longer than the limit of all names in a list is not among them
 pub longer_name_has_no_key_number : (name : List ℕ) (most : ℕ) (names : List (List ℕ)) → AreKeyNamesUpTo most names
@@ -45,6 +95,37 @@ AreUpTo-with_name most name names fits short = by (list_any (bytes_eq name) name
     by : (b : Bool) → AreKeyNamesUpTo most (cond b names (names ++ name ∷ []))
     by true = short
     by false = more names short
+
+-- an added name is at its place: its old place if it was present, or else the end
+abbrev At : List ℕ → List ℕ → List (List ℕ) → Bool → Type 0
+At name x xs b =
+    slice_get (cond (b || list_any (bytes_eq name) xs) (x ∷ xs) (x ∷ xs ++ name ∷ []))
+    (cond (not b) (1 + position_or_len (bytes_eq name) xs) 0) ≡ Some name
+
+-- an added name is at the place of its number
+pub put_name_has_its_key_number : (name : List ℕ) (names : List (List ℕ))
+    → slice_get (key_number_names_with_name name names) (position_or_len (bytes_eq name) names) ≡ Some name
+put_name_has_its_key_number name [] = refl
+put_name_has_its_key_number name (x ∷ xs) = by (bytes_eq name x) refl (put_name_has_its_key_number name xs)
+  where
+    behind : (c : Bool) (ys : List (List ℕ)) (n : ℕ)
+        → slice_get (cond c (x ∷ xs) (x ∷ ys)) (suc n) ≡ slice_get (cond c xs ys) n
+    behind true ys n = refl
+    behind false ys n = refl
+
+    next : (n : ℕ) → 1 + n ≡ suc n
+    next n = omega arith
+
+    by : (b : Bool) → bytes_eq name x ≡ b → slice_get (key_number_names_with_name name xs)
+        (position_or_len (bytes_eq name) xs)
+        ≡ Some name → At name x xs (bytes_eq name x)
+    by true e rest = subst (At name x xs) (sym e) (ap Some (sym ((bytes_eq-Decides name x).0 e)))
+    by false e rest =
+        subst (At name x xs) (sym e)
+        (ap (slice_get (cond (list_any (bytes_eq name) xs) (x ∷ xs) (x ∷ xs ++ name ∷ [])))
+        (next (position_or_len (bytes_eq name) xs))
+        ∙ behind (list_any (bytes_eq name) xs) (xs ++ name ∷ []) (position_or_len (bytes_eq name) xs)
+        ∙ rest)
 
 -- a name at a place of a list is among the names
 pub name_with_key_number_is_any : (name : List ℕ) (names : List (List ℕ)) (i : ℕ) → slice_get names i ≡ Some name

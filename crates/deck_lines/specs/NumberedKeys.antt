@@ -1,7 +1,5 @@
 -- The views of the sets of names, by kind.
-use Rattle.std.specs.Prelude.{length}
-use Rattle.units_io.specs.StoredTexts.{HasTextRoom, StoredTexts}
-use Rattle.def_entry.specs.declared.key.Key.{Key}
+use Rattle.std.specs.Prelude.{ℕ}
 use Rattle.def_entry.specs.declared.key.Kind.{Kind}
 use Rattle.def_entry.specs.declared.key.Kind.TheVariants as kind
 use Rattle.deck_lines.specs.Names.{KeyNumberNames}
@@ -9,19 +7,15 @@ use Rattle.deck_lines.specs.declared.store.key_numbers.KeyNumbers.{KeyNumbers}
 
 abbrev pub key_number_names_in : KeyNumbers → KeyNumberNames
 key_number_names_in keys = record {
-  units = keys.units.texts;
-  prefixes = keys.prefixes.texts;
-  functions = keys.functions.texts;
-  lists = keys.lists.texts;
+  units = keys.units.names;
+  prefixes = keys.prefixes.names;
+  functions = keys.functions.names;
+  lists = keys.lists.names;
 }
 
--- the names of a kind, and the room for further names
-abbrev pub stored_key_names_of_kind : KeyNumbers → Kind → StoredTexts
-stored_key_names_of_kind keys kind.Unit = keys.units
-stored_key_names_of_kind keys kind.Prefix = keys.prefixes
-stored_key_names_of_kind keys kind.Func = keys.functions
-stored_key_names_of_kind keys kind.List = keys.lists
-
--- a number can be given to this key without an allocation
-abbrev pub HasRoomForKeyNumber : KeyNumbers → Key → Type 0
-HasRoomForKeyNumber keys k = HasTextRoom (length k.name) (stored_key_names_of_kind keys k.kind)
+-- the number of names of a kind that can be added without an allocation
+abbrev pub spare_key_numbers_of_kind : KeyNumbers → Kind → ℕ
+spare_key_numbers_of_kind keys kind.Unit = keys.units.spare_names
+spare_key_numbers_of_kind keys kind.Prefix = keys.prefixes.spare_names
+spare_key_numbers_of_kind keys kind.Func = keys.functions.spare_names
+spare_key_numbers_of_kind keys kind.List = keys.lists.spare_names

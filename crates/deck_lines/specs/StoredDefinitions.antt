@@ -5,7 +5,7 @@ use Rattle.def_entry.specs.declared.key.Key.{Key}
 use Rattle.def_entry.specs.Entries.{Entry, What}
 use Rattle.def_entry.specs.Views.{entry_definition_view}
 use Rattle.deck_lines.specs.Names.{AreKeyNumbersOneToOne, KeyNumberNames, key_numbered}
-use Rattle.deck_lines.specs.NumberedKeys.{HasRoomForKeyNumber, key_number_names_in}
+use Rattle.deck_lines.specs.NumberedKeys.{key_number_names_in, spare_key_numbers_of_kind}
 use Rattle.deck_lines.specs.Readings.{entry_in_store_line}
 use Rattle.deck_lines.specs.declared.key_number.KeyNumber.{KeyNumber}
 use Rattle.deck_lines.specs.declared.line.DeckLine.{DeckLine}
@@ -30,14 +30,14 @@ abbrev pub AreStoreDefinitionsOf : Definitions → List (Option (Key × Entry)) 
 AreStoreDefinitionsOf definitions said = IsStoreDefined (key_number_names_in definitions.keys)
     definitions.of_lines.listed said
 
-abbrev pub HasRoomForDefinedKey : KeyNumbers → Option (Key × MadeWhat) → Type 0
-HasRoomForDefinedKey keys None = ⊤
-HasRoomForDefinedKey keys (Some definition) = HasRoomForKeyNumber keys definition.0
+abbrev pub HasRoomForKeyNumber : KeyNumbers → Option (Key × MadeWhat) → Type 0
+HasRoomForKeyNumber keys None = ⊤
+HasRoomForKeyNumber keys (Some definition) = 0 < spare_key_numbers_of_kind keys definition.0.kind
 
 -- the definition of one more line can be added without an allocation
 pub record HasRoomForStoreDefinition (definitions : Definitions) (definition : Option (Key × MadeWhat)) : Type 0 where
   pub room_for_line : 0 < definitions.of_lines.spare
-  pub room_for_key : HasRoomForDefinedKey definitions.keys definition
+  pub room_for_key : HasRoomForKeyNumber definitions.keys definition
 
 -- the definitions are those of the lines, and no key has two numbers
 pub record HoldsStoreDefinitions (lines : List DeckLine) (definitions : Definitions) : Type 0 where

@@ -1,4 +1,5 @@
 -- The contents of an index of keys.
+use Rattle.smallvec.specs.SmallVec.{SmallVec}
 use Rattle.std.specs.Prelude.{◌≡◌, ◌≤◌, ◌++◌, ◌∷◌, ℕ, Bool, false, List, [], map, length, Some, MatchBool, slice_get}
 use Rattle.def_entry.specs.declared.key.Key.{Key}
 use Rattle.def_entry.specs.declared.key.Kind.TheVariants as kind
@@ -16,12 +17,12 @@ decoded_node_key [] = key kind.Unit []
 decoded_node_key (byte ∷ name) = key (kind_at_key_order byte) name
 
 -- the keys, in the order of their numbers
-abbrev pub decoded_node_keys : List (List ℕ) → List Key
-decoded_node_keys held = map decoded_node_key held
+abbrev pub decoded_node_keys : List (SmallVec ℕ) → List Key
+decoded_node_keys held = map (λ bytes. decoded_node_key bytes.items) held
 
 -- the bytes encode a key, and take no more than this room
-abbrev pub IsStoredNodeKey : ℕ → List ℕ → Type 0
-IsStoredNodeKey room bytes = (node_key_bytes (decoded_node_key bytes) ≡ bytes) × (length bytes ≤ room)
+abbrev pub IsStoredNodeKey : ℕ → SmallVec ℕ → Type 0
+IsStoredNodeKey room bytes = (node_key_bytes (decoded_node_key bytes.items) ≡ bytes.items) × (length bytes.items ≤ room)
 
 -- a key has a number, the next one if it had none
 pub record IsNodeKeyAdded (k : Key) (old new : List Key) (n : ℕ) (is_new : Bool) : Type 0 where

@@ -1,21 +1,21 @@
 //! A two-way index between keys and numbers.
 
-ghost use Rattle.std.specs.Prelude.{◌≡◌, ◌<◌, [], Some, false, true, length, slice_get, IfOk, MatchOption, OnErr};
+ghost use Rattle.std.specs.Prelude.{◌≡◌, ◌<◌, [], Some, false, length, slice_get, IfOk, IfSome, MatchOption, OnErr};
 ghost use Rattle.def_entry.specs.Keys.{key};
 ghost use Rattle.def_entry.specs.SameKeys.{is_entry_key_among};
 ghost use Rattle.live_table.specs.KeyIndex.{IsNodeKeyAdded, node_key_bytes};
 ghost use Rattle.live_table.specs.TableContents.{node_key_at};
 
-use crate::stored_keys::{StoredKey, kind_of_byte, overwrite, store};
+use crate::stored_keys::{StoredKey, is_short, kind_of_byte, overwrite, store};
 use def_entry::{Key, Kind};
+use indexmap::IndexSet;
 use std::alloc::{AllocError, Global};
 use std::marker::Model;
-use units_io::{HashSeed, Text, TextIndex};
+use units_io::{HashSeed, Text};
 
 /// Keys in insertion order. The number of a key is the number of keys before it.
 pub(crate) struct KeyIndex {
-    // each key in the form of a `StoredKey`
-    keys: TextIndex,
+    keys: IndexSet<StoredKey, HashSeed>,
     // the key that was looked up last, with room for the longest of all keys, so that a lookup allocates no memory
     wanted: StoredKey,
 }
@@ -35,16 +35,16 @@ pub(crate) struct Added {
 }
 
 impl Model for KeyIndex {
-    ghost use Rattle.std.specs.Prelude.{List, vec_capacity};
+    ghost use Rattle.std.specs.Prelude.{List};
     ghost use Rattle.std.specs.List.{All};
     ghost use Rattle.def_entry.specs.declared.key.Key.{Key};
     ghost use Rattle.live_table.specs.KeyIndex.{IsStoredNodeKey, decoded_node_keys};
 
     ghost Value = { List Key };
 
-    ghost view = { λ x. decoded_node_keys x.keys.texts };
+    ghost view = { λ x. decoded_node_keys x.keys.keys };
 
-    ghost invariant = { λ x. All (IsStoredNodeKey (vec_capacity x.wanted)) x.keys.texts };
+    ghost invariant = { λ x. All (IsStoredNodeKey x.wanted.capacity) x.keys.keys };
 }
 
 impl KeyIndex {
@@ -53,7 +53,7 @@ impl KeyIndex {
         ensures { result ≡ [] }
     {
         KeyIndex {
-            keys: TextIndex::new(alloc, seed),
+            keys: IndexSet::with_hasher(alloc, seed),
             wanted: StoredKey::new(alloc),
         }
     }
@@ -75,7 +75,7 @@ impl KeyIndex {
             return None;
         }
         overwrite(&mut self.wanted, kind, name).unwrap();
-        self.keys.number_of(&self.wanted)
+        self.keys.get_index_of(&self.wanted)
     }
 
     /// Returns the number of a key, or `None` if it has none. The only error is lack of memory.
@@ -89,7 +89,7 @@ impl KeyIndex {
             (λ n. slice_get self.now n ≡ Some (key kind name.now))) }
     {
         let wanted = store(alloc, kind, name)?;
-        Ok(self.keys.number_of(&wanted))
+        Ok(self.keys.get_index_of(&wanted))
     }
 
     /// Returns the kind of the key with number `n`.
@@ -113,7 +113,7 @@ impl KeyIndex {
         requires { n < length self.now }
         ensures { result.now ≡ node_key_bytes (node_key_at self.now n) }
     {
-        self.keys.text(n).unwrap()
+        self.keys.as_slice()[n].as_slice()
     }
 
     /// Returns a copy of the key with number `n`, or a key with an empty name beyond the last. The only error is lack
@@ -133,42 +133,56 @@ impl KeyIndex {
         Ok(Key { kind, name })
     }
 
-    /// Makes room for `more` further keys. Each of them makes room for its bytes when it is added.
+    /// Makes room for `more` further keys.
     pub(crate) fn reserve(&mut self, more: usize) -> Result<(), AllocError>
         ensures { self.new ≡ self.old }
     {
-        self.keys.reserve(more, 0)
+        self.keys.reserve(more)
     }
 
-    /// Returns the number of a key, and adds the key with the next number if it has none. Allocates no memory for a key
-    /// that has a number. On failure nothing changes.
-    pub(crate) fn add(&mut self, kind: Kind, name: &[u8]) -> Result<Added, AllocError>
+    /// Returns the number of a key, and adds the key with the next number if it has none. On failure nothing changes.
+    pub(crate) fn add(
+        &mut self,
+        alloc: Global,
+        kind: Kind,
+        name: &[u8],
+    ) -> Result<Added, AllocError>
         ensures ok { IfOk result (λ added. IsNodeKeyAdded (key kind name.now) self.old self.new added.number
             added.is_new) }
         ensures err { OnErr result (self.new ≡ self.old) }
     {
-        if let Some(number) = self.number_of(kind, name) {
+        if let Some(number) = self.number_of_long(kind, name) {
             return Ok(Added {
                 number,
                 is_new: false,
             });
         }
-        let number = self.insert(kind, name)?;
-        Ok(Added {
-            number,
-            is_new: true,
-        })
+        self.insert(alloc, kind, name)
     }
 
-    // Stores a new key, and returns its number. On failure nothing changes.
-    fn insert(&mut self, kind: Kind, name: &[u8]) -> Result<usize, AllocError>
-        requires { is_entry_key_among self.old (key kind name.now) ≡ false }
-        ensures ok { IfOk result (λ n. IsNodeKeyAdded (key kind name.now) self.old self.new n true) }
+    // Returns the number of a key that is too long to be stored inline, if it has one. So no memory is allocated for a
+    // key that is known.
+    fn number_of_long(&mut self, kind: Kind, name: &[u8]) -> Option<usize>
+        ensures kept { self.new ≡ self.old }
+        ensures number { IfSome result (λ n. slice_get self.old n ≡ Some (key kind name.now)) }
+    {
+        if is_short(name) {
+            return None;
+        }
+        self.number_of(kind, name)
+    }
+
+    // Returns the number of a key, and stores the key if it has none.
+    fn insert(&mut self, alloc: Global, kind: Kind, name: &[u8]) -> Result<Added, AllocError>
+        ensures ok { IfOk result (λ added. IsNodeKeyAdded (key kind name.now) self.old self.new added.number
+            added.is_new) }
         ensures err { OnErr result (self.new ≡ self.old) }
     {
-        // Makes room for later lookups of the key.
-        overwrite(&mut self.wanted, kind, name)?;
-        self.keys.reserve(1, self.wanted.len())?;
-        Ok(self.keys.put(&self.wanted))
+        let bytes = store(alloc, kind, name)?;
+        // Makes room to look the key up before it is added.
+        self.wanted.clear();
+        self.wanted.reserve(bytes.len())?;
+        let (number, is_new) = self.keys.insert_full(bytes)?;
+        Ok(Added { number, is_new })
     }
 }

@@ -91,7 +91,7 @@ impl Nodes {
         ensures gathered { self.new.gathered ≡ self.old.gathered }
     {
         self.reserve_rows(1)?;
-        let added = self.keys.add(kind, name)?;
+        let added = self.keys.add(alloc, kind, name)?;
         if added.is_new {
             self.push_row(alloc, table.find(kind, name));
         }

@@ -1,21 +1,33 @@
 //! Keys in the form of bytes.
 
-ghost use Rattle.std.specs.Prelude.{◌≡◌, ◌<◌, ◌≤◌, IfOk, IsOk, OnOk, length, vec_capacity};
+ghost use Rattle.std.specs.Prelude.{◌≡◌, ◌<◌, ◌≤◌, IfOk, IsOk, OnOk, length};
 ghost use Rattle.def_entry.specs.KeyOrder.{key_order_number, kind_at_key_order};
 ghost use Rattle.def_entry.specs.Keys.{key};
 ghost use Rattle.live_table.specs.KeyIndex.{node_key_bytes};
 
 use def_entry::Kind;
+use smallvec::SmallVec;
 use std::alloc::{AllocError, Global};
 
-/// A key in the form of bytes: one for its kind, then those of its name.
-pub(crate) type StoredKey = Vec<u8>;
+/// A key in the form of bytes: one for its kind, then those of its name. A short key is stored inline.
+pub(crate) type StoredKey = SmallVec<u8, ROOM>;
+
+// The number of bytes that a key stores inline.
+const ROOM: usize = 16;
+
+// So each key takes four words.
+const _: () = prove!(size_of::<StoredKey>() == 32);
 
 const UNIT: u8 = Kind::Unit as u8;
 
 const PREFIX: u8 = Kind::Prefix as u8;
 
 const FUNC: u8 = Kind::Func as u8;
+
+/// Whether a key with this name is stored inline.
+pub(crate) fn is_short(name: &[u8]) -> bool {
+    name.len() < ROOM
+}
 
 /// Converts a key into bytes. The only error is lack of memory.
 pub(crate) fn store(alloc: Global, kind: Kind, name: &[u8]) -> Result<StoredKey, AllocError>
@@ -29,8 +41,8 @@ pub(crate) fn store(alloc: Global, kind: Kind, name: &[u8]) -> Result<StoredKey,
 /// Overwrites the bytes with a key. It allocates memory only if the key does not fit.
 pub(crate) fn overwrite(bytes: &mut StoredKey, kind: Kind, name: &[u8]) -> Result<(), AllocError>
     ensures ok { OnOk result (bytes.new.items ≡ node_key_bytes (key kind name.now)) }
-    ensures room { vec_capacity bytes.old ≤ vec_capacity bytes.new }
-    ensures succeeds { length name.now < vec_capacity bytes.old → IsOk result }
+    ensures room { bytes.old.capacity ≤ bytes.new.capacity }
+    ensures succeeds { length name.now < bytes.old.capacity → IsOk result }
 {
     bytes.clear();
     bytes.push(kind_byte(kind))?;

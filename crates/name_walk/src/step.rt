@@ -2,7 +2,9 @@
 
 ghost use Rattle.std.specs.Prelude.{◌≡◌, ◌∷◌, [], ◌++◌, IfOk, OnOk, OnErr};
 
+use smallvec::SmallVec;
 use std::alloc::{AllocError, Global};
+use std::default::MadeWith;
 use std::marker::Model;
 
 /// One target of a word. A word with two targets has two steps, in the order of the targets.
@@ -14,10 +16,17 @@ pub enum Step {
     To(usize),
 }
 
-/// The steps of a name.
+// A small vector fills its unused places with this value.
+impl MadeWith<Global> for Step {
+    fn made_with(_alloc: Global) -> Step {
+        Step::Nowhere(0)
+    }
+}
+
+/// The steps of a name. The steps of a single word, which most names have, are stored inline, without an allocation.
 #[derive(Drop)]
 pub struct StepList {
-    items: Vec<Step>,
+    items: SmallVec<Step, 2>,
 }
 
 impl Model for StepList {
@@ -35,7 +44,7 @@ impl StepList {
         ensures { result ≡ [] }
     {
         StepList {
-            items: Vec::new(alloc),
+            items: SmallVec::new(alloc),
         }
     }
 
@@ -43,7 +52,7 @@ impl StepList {
     pub fn with_capacity(alloc: Global, len: usize) -> Result<StepList, AllocError>
         ensures { IfOk result (λ steps. steps ≡ []) }
     {
-        let items = Vec::with_capacity(alloc, len)?;
+        let items = SmallVec::with_capacity(alloc, len)?;
         Ok(StepList { items })
     }
 

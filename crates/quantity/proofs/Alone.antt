@@ -11,20 +11,6 @@ use Rattle.quantity.proofs.Joins.{as_exponent_none}
 use Rattle.quantity.proofs.Ranges.{exponent_fault_stays}
 use Rattle.quantity.proofs.Names.{Name, by_bytes}
 
--- a power whose exponent is out of range is a fault
-pub lone_power_fault : (name : Name) (e : Fraction) → IsReducedFraction e → None ≡ as_exponent e
-    → IsFalse (are_exponents (put_nonzero_power (name, e) []))
-lone_power_fault name e reduced answer = exponent_fault_stays [] (name, e) [] reduced (as_exponent_none e answer)
-
--- two powers of the same name merge to their sum
-pub merge_of_same_name_powers : (step : Fraction → Fraction) (p o : Name × Fraction) → p.0 ≡ o.0
-    → merge_of_powers step (p ∷ []) (o ∷ []) ≡ put_nonzero_power (p.0, exponent_sum p.1 (step o.1)) []
-merge_of_same_name_powers step p o same =
-    ap (λ r. match_ordering r (p ∷ merge_of_powers step [] (o ∷ []))
-    (put_nonzero_power (p.0, exponent_sum p.1 (step o.1)) [])
-    (unit_power_by step o ∷ merge_of_powers step (p ∷ []) []))
-    (sym (ap (by_bytes p.0) same) ∙ tied_itself nat_list_cmp_total p.0)
-
 -- one more power is copied as the step takes it
 pub copied_powers_next : (step : Fraction → Fraction) (out rest more all new : UnitPowers) (o : Name × Fraction)
     → out ++ map (unit_power_by step) rest ≡ map (unit_power_by step) all → rest ≡ o ∷ more

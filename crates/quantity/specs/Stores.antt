@@ -3,14 +3,13 @@ use Rattle.std.specs.Prelude.{◌≡◌, ℕ, List, [], ◌∷◌, Option, Some,
 use Rattle.frac128.specs.Fraction.{Fraction}
 use Rattle.quantity.specs.Merges.{UnitPowers}
 use Rattle.quantity.specs.declared.store.Store.{Store}
-use Rattle.quantity.specs.declared.store.Store.TheVariants.{One, Few, Many}
+use Rattle.quantity.specs.declared.store.Store.TheVariants.{Few, Many}
 use Rattle.quantity.specs.declared.walk.Entry.{Entry}
 use Rattle.quantity.specs.declared.walk.Walk.{Walk}
 use Rattle.quantity.specs.declared.walk.Walk.TheVariants.{Slice, Entries}
 
 -- the stored powers
 abbrev pub stored_powers : Store → UnitPowers
-stored_powers (One power) = power ∷ []
 stored_powers (Few items) = items.items
 stored_powers (Many tree) = tree.entries
 

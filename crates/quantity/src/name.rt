@@ -2,14 +2,16 @@
 
 ghost use Rattle.std.specs.Prelude.{◌≡◌, IfOk};
 
+use smallvec::SmallVec;
 use std::alloc::{AllocError, Global};
 use std::cmp::Ordering;
 use std::marker::Model;
 
-/// The bytes of a name, which also define the order of names.
+/// The bytes of a name, which also define the order of names. A short name is stored inline, since each product copies
+/// the names of a factor.
 #[derive(Drop)]
 pub(crate) struct Name {
-    bytes: Vec<u8>,
+    bytes: SmallVec<u8, 16>,
 }
 
 impl Model for Name {
@@ -26,8 +28,15 @@ impl Name {
         ensures { IfOk result (λ name. name ≡ bytes.now) }
     {
         Ok(Name {
-            bytes: Vec::from_slice(alloc, bytes)?,
+            bytes: SmallVec::from_slice(alloc, bytes)?,
         })
+    }
+
+    // Creates a name without bytes. It allocates no memory.
+    pub(crate) fn empty(alloc: Global) -> Name {
+        Name {
+            bytes: SmallVec::new(alloc),
+        }
     }
 
     pub(crate) fn as_bytes(&self) -> &[u8]

@@ -5,8 +5,17 @@ ghost use Rattle.frac128.specs.Fraction.{whole_fraction};
 
 use crate::exponent::Exponent;
 use crate::name::Name;
+use smallvec::SmallVec;
 use std::alloc::{AllocError, Global};
+use std::default::MadeWith;
 use std::marker::Model;
+
+/// Powers in the byte order of their names.
+pub(crate) type PowerList = SmallVec<Power, INLINE_POWERS>;
+
+// The number of powers that a list holds without an allocation. Each operation moves a list, so room for more powers
+// costs more than the allocations that it saves.
+const INLINE_POWERS: usize = 1;
 
 /// A name with its exponent, which contracts see as a pair.
 #[derive(Drop)]
@@ -25,6 +34,16 @@ impl Model for Power {
     ghost coded = { unit_power_code };
 
     ghost view = { λ p. (p.name, p.exponent) };
+}
+
+// A small vector fills its unused places with this value.
+impl MadeWith<Global> for Power {
+    fn made_with(alloc: Global) -> Power {
+        Power {
+            name: Name::empty(alloc),
+            exponent: Exponent::one(),
+        }
+    }
 }
 
 impl Power {

@@ -9,7 +9,7 @@ ghost use Rattle.quantity.specs.Places.{power_place};
 use crate::factor::Factor;
 use crate::fault::ExponentFault;
 use crate::name::Name;
-use crate::power::Power;
+use crate::power::{Power, PowerList};
 use frac128::reduced_law;
 use std::alloc::{AllocError, Global};
 use std::cmp::Ordering;
@@ -25,10 +25,10 @@ enum Place {
 // whose exponents cancel is dropped. Each power of the second list is inserted at its place in the first.
 pub(crate) fn merge(
     alloc: Global,
-    left: Vec<Power>,
+    left: PowerList,
     right: &[Power],
     factor: Factor,
-) -> Result<Vec<Power>, ExponentFault>
+) -> Result<PowerList, ExponentFault>
     requires left { ArePowersInOrder left.items }
     requires right { ArePowersInOrder right.now }
     ensures { ArePowers (λ list. list.items) result (merge_of_powers (exponent_in factor) left.items right.now) }
@@ -45,7 +45,7 @@ pub(crate) fn merge(
 // Merges one power of a factor into an ordered list.
 fn join(
     alloc: Global,
-    powers: &mut Vec<Power>,
+    powers: &mut PowerList,
     power: &Power,
     factor: Factor,
 ) -> Result<(), ExponentFault>
@@ -59,13 +59,13 @@ fn join(
     match place_of(powers.as_slice(), power.name()) {
         Place::Before(index) => powers.insert(index, power.with(alloc, exponent)?)?,
         Place::At(index) => {
-            let Some(sum) = powers[index].exponent().add(&exponent) else {
+            let Some(sum) = powers.as_slice()[index].exponent().add(&exponent) else {
                 return Err(ExponentFault::Range);
             };
             if sum.is_zero() {
                 powers.remove(index);
             } else {
-                powers[index].put_exponent(sum);
+                powers.get_mut(index).unwrap().put_exponent(sum);
             }
         }
     }
@@ -92,10 +92,10 @@ pub(crate) fn copies(
     alloc: Global,
     powers: &[Power],
     factor: Factor,
-) -> Result<Vec<Power>, AllocError>
+) -> Result<PowerList, AllocError>
     ensures { IfOk result (λ copies. copies.items ≡ map (unit_power_by (exponent_in factor)) powers.now) }
 {
-    let mut copies = Vec::with_capacity(alloc, powers.len())?;
+    let mut copies = PowerList::with_capacity(alloc, powers.len())?;
     for power in powers {
         copies.push(power.with(alloc, factor.exponent(power.exponent()))?)?;
     }

@@ -63,7 +63,8 @@ impl Powers {
     pub(crate) fn one(alloc: Global, name: &[u8]) -> Result<Powers, AllocError>
         ensures { IfOk result (λ powers. powers ≡ map.insert map.empty name.now (whole_fraction (pos 1))) }
     {
-        let store = Store::One(Power::of(alloc, name)?);
+        let power = Power::of(alloc, name)?;
+        let store = Store::of(alloc, power)?;
         Ok(Powers { store })
     }
 

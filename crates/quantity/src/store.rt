@@ -2,11 +2,9 @@
 
 ghost use Rattle.std.specs.Prelude.{◌≡◌, ◌==◌, ◌++◌, ◌∷◌, [], All, IfOk, IfSome, OnOk, length, map};
 ghost use Rattle.quantity.specs.Amount.{powers_match};
-ghost use Rattle.frac128.specs.Fraction.{Fraction, IsReducedFraction};
 ghost use Rattle.quantity.specs.Exponents.{IsUnitPower};
 ghost use Rattle.quantity.specs.Factors.{exponent_in};
-ghost use Rattle.quantity.specs.Merges.{ArePowers, ArePowersInOrder, as_exponent, merge_of_powers, put_nonzero_power};
-ghost use Rattle.quantity.specs.Merges.{unit_power_by, scaled_powers};
+ghost use Rattle.quantity.specs.Merges.{ArePowers, ArePowersInOrder, merge_of_powers, scaled_powers, unit_power_by};
 ghost use Rattle.quantity.specs.Stores.{remaining_powers, stored_powers};
 ghost use Rattle.quantity.specs.Text.{listed_powers_text};
 
@@ -15,28 +13,24 @@ use crate::exponent::Exponent;
 use crate::factor::Factor;
 use crate::fault::ExponentFault;
 use crate::name::Name;
-use crate::power::Power;
+use crate::power::{Power, PowerList};
 use crate::power_join::join_all;
 use crate::power_lookup::{same_lists, same_powers};
 use crate::power_merge::{copies, merge};
 use crate::power_scale::scale;
 use crate::text::put_powers;
 use crate::walk::Walk;
-use frac128::reduced_law;
 use std::alloc::{AllocError, Global};
 use std::collections::BTreeMap;
-use std::slice;
 
 // Two lists of at most this many powers are merged as lists.
 const MOST_MERGED: usize = 16;
 
-/// Powers in the byte order of their names. A single power is stored inline: the value stays small, which matters
-/// because each operation moves it. A few powers are a list, and many are a search tree, in which a product changes
-/// only the names of its second factor.
+/// Powers in the byte order of their names. A few powers are a list, and many are a search tree, in which a product
+/// changes only the names of its second factor.
 #[derive(Drop)]
 pub(crate) enum Store {
-    One(Power),
-    Few(Vec<Power>),
+    Few(PowerList),
     Many(BTreeMap<Name, Exponent>),
 }
 
@@ -45,29 +39,22 @@ impl Store {
     pub(crate) fn new(alloc: Global) -> Store
         ensures { stored_powers result ≡ [] }
     {
-        Store::Few(Vec::new(alloc))
+        Store::Few(PowerList::new(alloc))
     }
 
-    // Creates a store of a power with this exponent, or an empty one if the exponent is 0. `None` is the
-    // exponent of a fraction that is out of range.
-    fn of(alloc: Global, power: Power, exponent: Option<Exponent>) -> Result<Store, ExponentFault>
-        ensures { (e : Fraction) → IsReducedFraction e → exponent ≡ as_exponent e
-            → ArePowers stored_powers result (put_nonzero_power (power.0, e) []) }
+    // Creates a store of a single power.
+    pub(crate) fn of(alloc: Global, power: Power) -> Result<Store, AllocError>
+        ensures { IfOk result (λ store. stored_powers store ≡ power ∷ []) }
     {
-        let Some(exponent) = exponent else {
-            return Err(ExponentFault::Range);
-        };
-        if exponent.is_zero() {
-            return Ok(Store::new(alloc));
-        }
-        Ok(Store::One(power.with_exponent(exponent)))
+        let mut items = PowerList::new(alloc);
+        items.push(power)?;
+        Ok(Store::Few(items))
     }
 
     pub(crate) fn is_empty(&self) -> bool
         ensures { result ≡ (length (stored_powers self.now) == 0) }
     {
         match self {
-            Store::One(_) => false,
             Store::Few(items) => items.is_empty(),
             Store::Many(tree) => tree.len() == 0,
         }
@@ -78,7 +65,6 @@ impl Store {
         ensures { IfSome result (λ list. list.now ≡ stored_powers self.now) }
     {
         match self {
-            Store::One(power) => Some(slice::from_ref(power)),
             Store::Few(items) => Some(items.as_slice()),
             Store::Many(_) => None,
         }
@@ -89,7 +75,6 @@ impl Store {
         ensures { remaining_powers result ≡ stored_powers self.now }
     {
         match self {
-            Store::One(power) => Walk::Slice(slice::from_ref(power)),
             Store::Few(items) => Walk::Slice(items.as_slice()),
             Store::Many(tree) => Walk::Entries(tree.iter()),
         }
@@ -114,9 +99,6 @@ impl Store {
             ≡ map (unit_power_by (exponent_in factor)) (stored_powers self.now)) }
     {
         Ok(match self {
-            Store::One(power) => {
-                Store::One(power.with(alloc, factor.exponent(power.exponent()))?)
-            }
             Store::Few(items) => Store::Few(copies(alloc, items.as_slice(), factor)?),
             Store::Many(tree) => Store::Few(list_powers(alloc, tree, factor)?),
         })
@@ -141,7 +123,6 @@ impl Store {
             return Ok(other.copy_powers(alloc, factor)?);
         }
         match self {
-            Store::One(left) => merge_one(alloc, left, other, factor),
             Store::Few(left) => merge_list(alloc, left, other, factor),
             Store::Many(left) => {
                 let tree = join_all(alloc, left, other.walk(), factor)?;
@@ -156,12 +137,6 @@ impl Store {
         ensures { ArePowers stored_powers result (scaled_powers degree.now (stored_powers self)) }
     {
         let items = match self {
-            Store::One(power) => {
-                reduced_law();
-                degree.denominator_facts();
-                let product = power.exponent().times(degree);
-                return Store::of(alloc, power, product);
-            }
             Store::Few(items) => items,
             Store::Many(tree) => list_powers(alloc, &tree, Factor::Plain)?,
         };
@@ -173,7 +148,6 @@ impl Store {
         ensures { OnOk result (text.new.items ≡ text.old.items ++ listed_powers_text (stored_powers self.now)) }
     {
         match self {
-            Store::One(power) => put_powers(alloc, text, slice::from_ref(power)),
             Store::Few(items) => put_powers(alloc, text, items.as_slice()),
             Store::Many(tree) => {
                 let items = list_powers(alloc, tree, Factor::Plain)?;
@@ -188,44 +162,20 @@ fn list_powers(
     alloc: Global,
     tree: &BTreeMap<Name, Exponent>,
     factor: Factor,
-) -> Result<Vec<Power>, AllocError>
+) -> Result<PowerList, AllocError>
     ensures { IfOk result (λ items. items.items ≡ map (unit_power_by (exponent_in factor)) tree.now.entries) }
 {
-    let mut items = Vec::with_capacity(alloc, tree.len())?;
+    let mut items = PowerList::with_capacity(alloc, tree.len())?;
     for (name, exponent) in tree {
         items.push(Power::new(name.copy(alloc)?, factor.exponent(*exponent)))?;
     }
     Ok(items)
 }
 
-// Merges one power with those of a factor.
-fn merge_one(
-    alloc: Global,
-    left: Power,
-    other: &Store,
-    factor: Factor,
-) -> Result<Store, ExponentFault>
-    requires left { ArePowersInOrder (left ∷ []) }
-    requires right { ArePowersInOrder (stored_powers other.now) }
-    ensures { ArePowers stored_powers result
-        (merge_of_powers (exponent_in factor) (left ∷ []) (stored_powers other.now)) }
-{
-    reduced_law();
-    if let Store::One(right) = other {
-        if left.name() == right.name() {
-            let sum = left.exponent().add(&factor.exponent(right.exponent()));
-            return Store::of(alloc, left, sum);
-        }
-    }
-    let mut list = Vec::with_capacity(alloc, 2)?;
-    list.push(left)?;
-    merge_list(alloc, list, other, factor)
-}
-
 // Merges a list with the powers of a factor. The result is a tree if either of them is long.
 fn merge_list(
     alloc: Global,
-    left: Vec<Power>,
+    left: PowerList,
     other: &Store,
     factor: Factor,
 ) -> Result<Store, ExponentFault>

@@ -1,7 +1,5 @@
 pub mod Growing
-pub mod HashedParts
-pub mod IndexedTextLemmas
-pub mod NamedTextColumns
+pub mod NamePlaceLemmas
 pub mod Names
-pub mod PackedTextLemmas
+pub mod StreamLemmas
 pub mod Tables

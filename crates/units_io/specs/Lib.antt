@@ -5,10 +5,9 @@ pub mod Environment
 pub mod Faults
 pub mod FetchResults
 pub mod FileMap
-pub mod IndexedTexts
 pub mod Memory
+pub mod NamePlaces
 pub mod NamedValues
 pub mod Outcomes
-pub mod PackedTexts
 pub mod StoreResults
-pub mod StoredTexts
+pub mod StreamStates

@@ -1,6 +1,4 @@
 //! Seeds for hash tables.
-ghost use Rattle.std.specs.Prelude.{◌≡◌};
-ghost use Rattle.units_io.specs.IndexedTexts.{text_hash};
 
 use std::hash::{BuildHasher, FoldHasher, Hasher};
 use std::random::RandomSource;
@@ -28,21 +26,6 @@ impl HashSeed {
             seed.start.write(bytes);
         }
         seed
-    }
-
-    /// Returns the hash of a text. The hasher is given eight bytes at a time: it multiplies longer pieces with each
-    /// other, so a piece could be chosen whose product is zero for every seed.
-    pub(crate) fn hash(&self, text: &[u8]) -> u64
-        ensures { result ≡ text_hash self.now text.now }
-    {
-        let mut state = self.start;
-        let mut rest = text;
-        while 8 < rest.len() {
-            state.write(&rest[..8]);
-            rest = &rest[8..];
-        }
-        state.write(rest);
-        state.finish()
     }
 
     /// Returns a seed from 16 random bytes of the system, or the fixed seed if the system provides none.

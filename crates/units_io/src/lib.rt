@@ -1,5 +1,5 @@
-//! Texts, lists and indexes of texts, the bytes that separate words, and the things that a program reads from and
-//! writes to: sources, sinks and files, both of the system and in memory.
+//! Texts, lists of texts and the bytes that separate words, and the things that a program reads from and writes to:
+//! sources, sinks and files, both of the system and in memory.
 #![tactic(auto)]
 
 mod blanks;
@@ -8,14 +8,12 @@ mod hash_seed;
 mod laws;
 mod list;
 mod memory;
-mod packed_texts;
 mod scan;
 mod sink;
 mod source;
 mod steps;
 mod system;
 mod text;
-mod text_index;
 mod vars;
 
 pub use blanks::is_blank;
@@ -28,7 +26,8 @@ pub use scan::prefix_len;
 pub use sink::{Sink, put_all};
 pub use source::{Failed, Source};
 pub use steps::Steps;
-pub use system::{DirFiles, StdSink, StdSource, collect_vars, collect_words};
+pub use system::{
+    DirFiles, StdSink, StdSource, SteadyRead, SteadyWrite, collect_vars, collect_words,
+};
 pub use text::Text;
-pub use text_index::TextIndex;
 pub use vars::Vars;

@@ -1,43 +1,43 @@
 //! Names with their values.
-ghost use Rattle.std.specs.Prelude.{◌≡◌, ◌++◌, ◌∷◌, [], length, IfNone, IfOk, OnOk, OnErr, slice_get, option_map, take};
+ghost use Rattle.std.specs.Prelude.{◌≡◌, ◌-◌, ◌++◌, ◌∷◌, [], length, IfNone, IfOk, OnOk, OnErr, slice_get};
+ghost use Rattle.std.specs.Prelude.{option_map, take};
 ghost use Rattle.std.specs.Option.{option_copied};
 ghost use Rattle.units_io.specs.NamedValues.{named_text, with_named_text, SetsNamedText, HasNoTextOfName};
 ghost use Rattle.units_io.specs.NamedValues.{HasDistinctTextNames};
 
 use crate::hash_seed::HashSeed;
 use crate::text::Text;
-use crate::text_index::TextIndex;
 use std::alloc::{AllocError, Global};
+use std::collections::HashMap;
 use std::marker::Model;
 
 /// An ordered list of pairs of a name and its value, in which the names are distinct. A lookup uses no memory, and its
 /// time does not depend on the number of pairs.
 pub struct Vars {
-    names: TextIndex,
-    // The value of each name, at the number of the name.
-    values: Vec<Text>,
+    // The place of each name in `pairs`.
+    places: HashMap<Vec<u8>, usize, HashSeed>,
+    pairs: Vec<(Text, Text)>,
 }
 
 impl Drop for Vars {
     fn drop(self) {
         let Vars {
-            names: _,
-            values: _,
+            places: _,
+            pairs: _,
         } = self;
     }
 }
 
 impl Model for Vars {
-    ghost use Rattle.std.specs.Prelude.{◌≡◌, length};
-    ghost use Rattle.std.specs.List.{zip};
     ghost use Rattle.units_io.specs.NamedValues.{NamedTexts, HasDistinctTextNames};
+    ghost use Rattle.units_io.specs.NamePlaces.{AreNamePlaces, name_place};
 
     ghost Value = { NamedTexts };
 
-    ghost view = { λ vars. zip vars.names.texts vars.values.items };
+    ghost view = { λ vars. vars.pairs.items };
 
-    ghost invariant = { λ vars. HasDistinctTextNames (zip vars.names.texts vars.values.items)
-        × (length vars.values.items ≡ length vars.names.texts) };
+    ghost invariant = { λ vars. HasDistinctTextNames vars.pairs.items
+        × AreNamePlaces (name_place vars.places) vars.pairs.items };
 }
 
 impl Vars {
@@ -53,24 +53,27 @@ impl Vars {
         ensures { result ≡ [] }
     {
         Vars {
-            names: TextIndex::new(alloc, seed),
-            values: Vec::new(alloc),
+            places: HashMap::with_hasher(alloc, seed),
+            pairs: Vec::new(alloc),
         }
     }
 
     /// Returns the seed of the table.
     pub fn table_seed(&self) -> HashSeed {
-        self.names.seed()
+        *self.places.hasher()
     }
 
     /// Appends a pair whose name is new: `value` must return `None` for it. On an error nothing changes.
-    pub fn push(&mut self, _alloc: Global, item: (Text, Text)) -> Result<(), AllocError>
+    pub fn push(&mut self, alloc: Global, item: (Text, Text)) -> Result<(), AllocError>
         requires { HasNoTextOfName self.old item.0 }
         ensures ok { OnOk result (self.new ≡ self.old ++ item ∷ []) }
         ensures err { OnErr result (self.new ≡ self.old) }
     {
-        let (name, value) = item;
-        self.push_value(name.as_bytes(), value)
+        let name = Vec::from_slice(alloc, item.0.as_bytes())?;
+        self.pairs.reserve(1)?;
+        self.places.insert(name, self.pairs.len())?;
+        self.pairs.push_reserved(item);
+        Ok(())
     }
 
     /// Appends a copy of a pair whose name is new. On an error nothing changes.
@@ -84,20 +87,9 @@ impl Vars {
         ensures ok { OnOk result (self.new ≡ self.old ++ (name.now, value.now) ∷ []) }
         ensures err { OnErr result (self.new ≡ self.old) }
     {
+        let name = Text::from_bytes(alloc, name)?;
         let value = Text::from_bytes(alloc, value)?;
-        self.push_value(name, value)
-    }
-
-    // Appends the value of a name that is new. On an error nothing changes.
-    fn push_value(&mut self, name: &[u8], value: Text) -> Result<(), AllocError>
-        requires { HasNoTextOfName self.old name.now }
-        ensures ok { OnOk result (self.new ≡ self.old ++ (name.now, value) ∷ []) }
-        ensures err { OnErr result (self.new ≡ self.old) }
-    {
-        self.names.reserve(1, name.len())?;
-        self.values.push(value)?;
-        self.names.append(name);
-        Ok(())
+        self.push(alloc, (name, value))
     }
 
     /// Sets the value of a name: replaces the current value if the name has one, and appends a new pair otherwise. On
@@ -108,9 +100,9 @@ impl Vars {
         ensures err { OnErr result (self.new ≡ self.old) }
         ensures distinct { HasDistinctTextNames self.new }
     {
-        match self.names.number_of(name.as_bytes()) {
-            Some(number) => {
-                self.values[number] = value;
+        match self.places.get(name.as_bytes()).copied() {
+            Some(place) => {
+                self.pairs[place] = (name, value);
                 Ok(())
             }
             None => self.push(alloc, (name, value)),
@@ -121,8 +113,18 @@ impl Vars {
     pub fn truncate(&mut self, len: usize)
         ensures { self.new ≡ take len self.old }
     {
-        self.names.truncate(len);
-        self.values.truncate(len);
+        while len < self.len() {
+            self.remove_last();
+        }
+    }
+
+    // Removes the last pair, if there is one.
+    fn remove_last(&mut self)
+        ensures { self.new ≡ take (length self.old - 1) self.old }
+    {
+        if let Some(pair) = self.pairs.pop() {
+            self.places.remove(pair.0.as_bytes());
+        }
     }
 
     /// Returns the number of pairs.
@@ -130,16 +132,15 @@ impl Vars {
         ensures len { result ≡ length self.now }
         ensures distinct { HasDistinctTextNames self.now }
     {
-        self.names.len()
+        self.pairs.len()
     }
 
     /// Returns the name and the value of the pair at index `i`, counted from 0, or `None` if `i` is out of bounds.
     pub fn get(&self, i: usize) -> Option<(&[u8], &Text)>
         ensures { option_map (λ pair. (pair.0.now, pair.1.now)) result ≡ slice_get self.now i }
     {
-        let name = self.names.text(i)?;
-        let value = self.values.get(i)?;
-        Some((name, value))
+        let pair = self.pairs.get(i)?;
+        Some((pair.0.as_bytes(), &pair.1))
     }
 
     /// Returns the value of the pair with this name, or `None` if no pair has it.
@@ -147,8 +148,8 @@ impl Vars {
         ensures value { option_copied result ≡ named_text self.now name.now }
         ensures absent { IfNone result (HasNoTextOfName self.now name.now) }
     {
-        let number = self.names.number_of(name)?;
-        self.values.get(number)
+        let place = self.places.get(name).copied()?;
+        Some(&self.pairs[place].1)
     }
 
     /// Returns a copy of the list that owns its memory and whose table uses the same seed.
@@ -166,10 +167,8 @@ impl Vars {
     fn with_capacity(alloc: Global, len: usize, seed: HashSeed) -> Result<Vars, AllocError>
         ensures { IfOk result (λ vars. vars ≡ []) }
     {
-        let mut names = TextIndex::new(alloc, seed);
-        // Each name makes room for its bytes when it is added.
-        names.reserve(len, 0)?;
-        let values = Vec::with_capacity(alloc, len)?;
-        Ok(Vars { names, values })
+        let places = HashMap::with_capacity_and_hasher(alloc, len, seed)?;
+        let pairs = Vec::with_capacity(alloc, len)?;
+        Ok(Vars { places, pairs })
     }
 }

@@ -95,7 +95,7 @@ impl Definitions {
     {
         self.of_lines.reserve(1)?;
         match definition {
-            Some((key, _)) => self.keys.reserve_for(key),
+            Some((key, _)) => self.keys.reserve_one(key.kind),
             None => Ok(()),
         }
     }

@@ -1,17 +1,16 @@
 //! Numbered keys.
 
-ghost use Rattle.std.specs.Prelude.{◌≡◌, Some, false, length, slice_get, OnOk, MatchOption};
+ghost use Rattle.std.specs.Prelude.{◌≡◌, ◌<◌, Some, false, length, slice_get, OnOk, MatchOption};
 ghost use Rattle.std.specs.Option.{option_copied};
 ghost use Rattle.def_entry.specs.Keys.{key};
 ghost use Rattle.deck_lines.specs.Names.{is_key_numbered, key_number_names_of_kind, key_numbered, key_numbers_with_key};
 ghost use Rattle.deck_lines.specs.Names.{no_key_number_names};
-ghost use Rattle.deck_lines.specs.NumberedKeys.{HasRoomForKeyNumber, key_number_names_in};
+ghost use Rattle.deck_lines.specs.NumberedKeys.{key_number_names_in, spare_key_numbers_of_kind};
 
 use super::name_set::NameSet;
 use crate::key_number::KeyNumber;
 use def_entry::{Key, Kind};
 use std::alloc::{AllocError, Global};
-use std::marker::Model;
 use units_io::HashSeed;
 
 /// Numbered keys, one table for each kind.
@@ -79,28 +78,27 @@ impl KeyNumbers {
         self.of_kind(kind).len()
     }
 
-    /// Makes room for a key.
-    pub fn reserve_for(&mut self, key: &Key) -> Result<(), AllocError>
+    /// Makes room for one more key of this kind.
+    pub fn reserve_one(&mut self, kind: Kind) -> Result<(), AllocError>
         ensures names { key_number_names_in self.new ≡ key_number_names_in self.old }
-        ensures ok { OnOk result (HasRoomForKeyNumber self.new key.now) }
+        ensures ok { OnOk result (0 < spare_key_numbers_of_kind self.new kind) }
     {
-        let len = key.name.as_bytes().len();
-        match key.kind {
-            Kind::Unit => self.units.reserve_one(len),
-            Kind::Prefix => self.prefixes.reserve_one(len),
-            Kind::Func => self.functions.reserve_one(len),
-            Kind::List => self.lists.reserve_one(len),
+        match kind {
+            Kind::Unit => self.units.reserve_one(),
+            Kind::Prefix => self.prefixes.reserve_one(),
+            Kind::Func => self.functions.reserve_one(),
+            Kind::List => self.lists.reserve_one(),
         }
     }
 
     /// Gives a key the next number of its kind, unless it has a number, and returns its number. Allocates no memory.
     pub fn put(&mut self, key: Key) -> KeyNumber
-        requires { HasRoomForKeyNumber self.old key }
+        requires { 0 < spare_key_numbers_of_kind self.old key.kind }
         ensures names { key_number_names_in self.new ≡ key_numbers_with_key (key_number_names_in self.old) key }
         ensures number { key_numbered (key_number_names_in self.new) result ≡ Some key }
     {
         let kind = key.kind;
-        let name = key.name.as_bytes();
+        let name = key.into_name().into_bytes();
         let number = match kind {
             Kind::Unit => self.units.put(name),
             Kind::Prefix => self.prefixes.put(name),
@@ -112,7 +110,7 @@ impl KeyNumbers {
 
     // Returns the table of names of a kind.
     fn of_kind(&self, kind: Kind) -> &NameSet
-        ensures { result.now.texts ≡ key_number_names_of_kind (key_number_names_in self.now) kind }
+        ensures { result.now.names ≡ key_number_names_of_kind (key_number_names_in self.now) kind }
     {
         match kind {
             Kind::Unit => &self.units,

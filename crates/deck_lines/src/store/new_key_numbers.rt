@@ -87,7 +87,6 @@ fn number_line(
     };
     let kind = number.kind;
     let name = Text::from_bytes(alloc, name)?;
-    let key = Key { kind, name };
-    keys.reserve_for(&key)?;
-    Ok(Some(keys.put(key)))
+    keys.reserve_one(kind)?;
+    Ok(Some(keys.put(Key { kind, name })))
 }

@@ -69,7 +69,7 @@ fn number_definition(keys: &mut KeyNumbers, key: Key, what: What) -> Result<Defi
     ensures ok { IfOk result (λ d. seen_store_definition (key_number_names_in keys.new) d
         ≡ (Some key, entry_definition_view what)) }
 {
-    keys.reserve_for(&key)?;
+    keys.reserve_one(key.kind)?;
     let key = keys.put(key);
     Ok(Definition { key, what })
 }

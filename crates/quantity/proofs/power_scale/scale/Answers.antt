@@ -1,10 +1,8 @@
-use Rattle.std.proofs.Common.{All, ap, arith, length, subst, sym, ◌∙◌}
+use Rattle.std.proofs.Common.{All, ap, subst, sym, ◌∙◌}
 use Rattle.std.proofs.lemmas.Result.{err_from_is_err_and}
-use Rattle.std.specs.Vec.Iter.{into_iter_items}
 use Rattle.frac128.specs.Fraction.{Fraction}
 use Rattle.quantity.specs.Exponents.{IsUnitPower}
 use Rattle.quantity.specs.Merges.{UnitPowers, are_exponents, scaled_powers}
-use Rattle.quantity.proofs.Copies.{no_powers_by_length}
 use Rattle.quantity.proofs.Ranges.{put_power_fault_passes_on}
 use Rattle.quantity.proofs.ScaleSteps.{scaling_powers_end, scaling_powers_fault, scaling_powers_more}
 use Rattle.quantity.proofs.ScaleSteps.{scaling_powers_start}
@@ -12,23 +10,14 @@ use Rattle.quantity.proofs.power_scale.scale.Goals as goal
 
 pub loop-power-init : goal.loop-power-init
 loop-power-init c =
-    let gives = c.into_iter-power-iterator.ensures.into_iter_gives in (
-      scaling_powers_start c.args.degree.now _ _ c.in_ok-powers.ensures.items
-          (subst (All IsUnitPower) (sym gives.0) c.requires),
-      gives.1 ∙ c.args.items.ok.0 ∙ sym (ap length gives.0),
-    )
+    let gives = c.into_iter-power-iterator.ensures.into_iter_gives in
+    scaling_powers_start c.args.degree.now _ _ c.in_ok-powers.ensures.items
+    (subst (All IsUnitPower) (sym gives.0) c.requires)
 
 pub loop-power-preserved : goal.loop-power-preserved
 loop-power-preserved c =
-    let steps = c.in-Some.ensures.steps in
-    let was = c.loop-power.invariant.1 in
-    let gone = steps.1 in
-    let short = ap length steps.0 in (
-      scaling_powers_more _ _ _ (into_iter_items c.loop-power.power-iterator) _ _ c.in-Some.power
-          c.loop-power.invariant.0
-          steps.0 c.in_ok-put_product.ensures,
-      omega (arith, was, gone, short),
-    )
+    scaling_powers_more _ _ _ c.loop-power.power-iterator _ _ c.in-Some.power c.loop-power.invariant
+    c.in-Some.ensures.steps c.in_ok-put_product.ensures
 
 pub returns-in_err-put_product : goal.returns-in_err-put_product
 returns-in_err-put_product c =
@@ -39,12 +28,10 @@ returns-in_err-put_product c =
     rw (error.1, error.2)
     (put_power_fault_passes_on _ _ _ _ _ c.in_err-put_product.ensures (λ fails.
     ap (λ (es : UnitPowers). are_exponents (scaled_powers by es)) (sym all)
-    ∙ scaling_powers_fault c.reduced_law.ensures by _ _ (into_iter_items c.loop-power.power-iterator) _ c.in-Some.power
-    c.denominator_facts.ensures c.loop-power.invariant.0 c.in-Some.ensures.steps.0 fails))
+    ∙ scaling_powers_fault c.reduced_law.ensures by _ _ c.loop-power.power-iterator _ c.in-Some.power
+    c.denominator_facts.ensures c.loop-power.invariant c.in-Some.ensures.steps fails))
 
 pub returns : goal.returns
 returns c =
-    let rest = into_iter_items c.loop-power.power-iterator in
-    let none = no_powers_by_length rest (sym c.loop-power.invariant.1 ∙ c.in-None.ensures.steps.0) in
-    scaling_powers_end c.args.degree.now _ _ rest _ c.loop-power.invariant.0 none
-    c.into_iter-power-iterator.ensures.into_iter_gives.0
+    scaling_powers_end c.args.degree.now _ _ c.loop-power.power-iterator _ c.loop-power.invariant
+    c.in-None.ensures.steps.0 c.into_iter-power-iterator.ensures.into_iter_gives.0

@@ -11,7 +11,7 @@ loop-name-preserved c =
     let power = c.new.ensures ∙ ap₂ (λ n e. (n, e)) c.in_ok-copy.ensures c.exponent.ensures in
     copied_powers_next (exponent_in c.args.factor) out c.loop-name.name-iterator _ _ c.push.new.self.items
     (c.in-Some.name.now, c.in-Some.exponent.now) c.loop-name.invariant c.in-Some.ensures.steps
-    (c.in_ok-push.ensures.items ∙ ap (λ p. out ++ p ∷ []) power)
+    (c.in_ok-push.ensures.ok ∙ ap (λ p. out ++ p ∷ []) power)
 
 pub returns : goal.returns
 returns c =

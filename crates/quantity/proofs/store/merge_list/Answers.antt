@@ -12,4 +12,4 @@ returns-in_err-left c =
     (stored_powers c.args.other.now) in
     rw (error.1, error.2)
     (powers_fault_passes_on c.as_slice.result.now all _ c.in_err-left.ensures
-    (ordered_powers_have_no_fault c.args.left.items c.as_slice.result.now all c.requires.left c.as_slice.ensures.value))
+    (ordered_powers_have_no_fault c.args.left.items c.as_slice.result.now all c.requires.left c.as_slice.ensures))

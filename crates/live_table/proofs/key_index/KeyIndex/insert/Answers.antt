@@ -1,26 +1,17 @@
-use Rattle.std.proofs.Common.{◌≤◌, ◌∙◌, ap, arith, length, vec_capacity}
+use Rattle.std.proofs.Common.{List, subst}
 use Rattle.def_entry.specs.Keys.{key}
-use Rattle.units_io.specs.IndexedTexts.{with_indexed_text}
-use Rattle.live_table.proofs.IndexKeys.{new_node_key_gets_number, node_keys_with_new_key_fit}
+use Rattle.def_entry.specs.declared.key.Key.{Key}
+use Rattle.live_table.specs.KeyIndex.{IsNodeKeyAdded, decoded_node_keys}
+use Rattle.live_table.proofs.IndexKeys.{key_gets_number}
 use Rattle.live_table.proofs.key_index.KeyIndex.insert.Goals as goal
 
 pub returns-clause-ok : goal.returns-clause-ok
 returns-clause-ok c =
-    new_node_key_gets_number (vec_capacity c.self.inside.wanted) c.self.inside.keys.texts c.put.new.self.texts
-    c.args.self.now (key c.args.kind c.args.name.now) c.deref.result.now c.self.invariant c.self.view_is
-    (c.deref.ensures.value ∙ c.in_ok-overwrite.ensures.ok) c.requires
-    (c.put.ensures.texts ∙ ap (with_indexed_text c.deref.result.now) c.reserve.ensures.texts)
-    c.put.result c.put.ensures.number
-
-pub invariant_of-self-2 : goal.invariant_of-self-2
-invariant_of-self-2 c =
-    let fits : length c.deref.result.now ≤ vec_capacity c.overwrite.new.bytes = omega (
-      arith,
-      ap length c.deref.ensures.value,
-      c.overwrite.new.bytes.ok.0,
-    ) in
-    node_keys_with_new_key_fit (vec_capacity c.self.inside.wanted) c.self.inside.keys.texts c.put.new.self.texts
-    c.args.self.now (key c.args.kind c.args.name.now) c.deref.result.now c.self.invariant c.self.view_is
-    (c.deref.ensures.value ∙ c.in_ok-overwrite.ensures.ok) c.requires
-    (c.put.ensures.texts ∙ ap (with_indexed_text c.deref.result.now) c.reserve.ensures.texts)
-    (vec_capacity c.overwrite.new.bytes) c.overwrite.ensures.room fits
+    let k = key c.args.kind c.args.name.now in
+    subst (λ (keys : List Key). IsNodeKeyAdded k keys (decoded_node_keys c.insert_full.new.self.keys)
+    c.in_ok-number.number
+    c.in_ok-number.is_new) c.self.view_is
+    (key_gets_number c.self.inside.wanted.capacity c.self.inside.keys.keys c.insert_full.new.self.keys k
+    c.in_ok-bytes.bytes
+    c.self.invariant c.in_ok-bytes.ensures c.in_ok-number.ensures.keys c.in_ok-number.number c.in_ok-number.is_new
+    c.in_ok-number.ensures.added c.in_ok-number.ensures.stored)

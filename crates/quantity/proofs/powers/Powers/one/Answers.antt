@@ -7,8 +7,9 @@ use Rattle.quantity.proofs.powers.Powers.one.Goals as goal
 
 pub invariant_of-result : goal.invariant_of-result
 invariant_of-result c =
-    subst ArePowersInOrder (sym (ap (λ (p : Name × Fraction). p ∷ []) c.in_ok-of.ensures))
+    subst ArePowersInOrder (sym (c.in_ok-store.ensures ∙ ap (λ (p : Name × Fraction). p ∷ []) c.in_ok-power.ensures))
     (single_power_in_order c.args.name.now)
 
 pub returns : goal.returns
-returns c = ap (λ (p : Name × Fraction). exponents_in (p ∷ [])) c.in_ok-of.ensures ∙ single_power_map c.args.name.now
+returns c = ap exponents_in (c.in_ok-store.ensures ∙ ap (λ (p : Name × Fraction). p ∷ []) c.in_ok-power.ensures)
+    ∙ single_power_map c.args.name.now
