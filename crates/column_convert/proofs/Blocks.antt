@@ -22,7 +22,7 @@ use Rattle.column_convert.specs.Records.{RecordFields}
 use Rattle.column_convert.specs.Rows.{next_queries, next_row, queries, row, row_before_rows, row_queries, rows}
 use Rattle.column_convert.specs.RecordWriter.{IsNextRowWritten, IsRowWritten}
 use Rattle.column_convert.specs.declared.block.Block.{Block}
-use Rattle.column_convert.specs.Rows.{ColumnRow}
+use Rattle.column_convert.specs.declared.column_row.ColumnRow.{ColumnRow}
 
 module _ (t : EntryTable) (options : Options) (from to : List ℕ) where
   abbrev IsFirst : ℕ → ColumnInput → Type 0
@@ -109,11 +109,11 @@ error_row_or_last false true = refl
 error_row_or_last false false = refl
 
 pub error_row_with_last : (done : List ColumnRow) (row : ColumnRow)
-    → is_error_row (done ++ row ∷ []) ≡ (is_error_row done || row.cell_refused)
-error_row_with_last [] row = sym (error_row_or_last false row.cell_refused)
+    → is_error_row (done ++ row ∷ []) ≡ (is_error_row done || row.refused)
+error_row_with_last [] row = sym (error_row_or_last false row.refused)
 error_row_with_last (d ∷ done) row =
-    ap (λ x. d.cell_refused || x) (error_row_with_last done row)
-    ∙ sym (or_assoc d.cell_refused (is_error_row done) row.cell_refused)
+    ap (λ x. d.refused || x) (error_row_with_last done row)
+    ∙ sym (or_assoc d.refused (is_error_row done) row.refused)
 
 -- ---- the effect of one more row
 module _ (before after : Writer (Vec ℕ Global)) where
@@ -247,7 +247,7 @@ module _ (options : Options) (from to : List ℕ) (whole : ColumnInput) (most : 
 
         -- one more row is written
         pub underway_next : (row : ColumnRow) → next_row (table_of_deck now.deck) options from to left ≡ Some row
-            → (r : Bool) → r ≡ (refused || row.cell_refused) → (longer : Option (List ℕ))
+            → (r : Bool) → r ≡ (refused || row.refused) → (longer : Option (List ℕ))
             → longer ≡ Some (text_of_rows u.done ++ row.text)
             → IsUnderway (rest_of_column_input left) (count + 1) r longer later last
         unfolding column_input_after
@@ -273,7 +273,7 @@ module _ (options : Options) (from to : List ℕ) (whole : ColumnInput) (most : 
               (first_records (most - (count + 1)) (rest_of_column_input left))));
           ends = u.ends ∙ ap (λ n. column_input_after n left) one_less;
           text_is = grows ∙ ap Some (sym (text_of_rows_with_last u.done row));
-          refused_is = either ∙ ap (λ b. b || row.cell_refused) u.refused_is ∙ sym (error_row_with_last u.done row);
+          refused_is = either ∙ ap (λ b. b || row.refused) u.refused_is ∙ sym (error_row_with_last u.done row);
           count_is = ap (λ n. n + 1) u.count_is ∙ sym (length_push u.done row);
           fits = omega arith;
           deck = same ∙ u.deck;

@@ -8,6 +8,7 @@ mod Longest
 mod Cuts
 mod Alike
 mod Numbers
+mod SingleRows
 mod Spelt
 mod Products
 mod CellValues

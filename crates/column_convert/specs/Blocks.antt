@@ -1,9 +1,10 @@
 -- Rows in blocks.
-use Rattle.std.specs.Prelude.{◌≡◌, ◌++◌, ◌||◌, ℕ, zero, suc, Bool, false, List, [], ◌∷◌, length, take}
+use Rattle.std.specs.Prelude.{◌≡◌, ◌++◌, ◌||◌, ℕ, zero, suc, Bool, false, List, [], ◌∷◌, length, take, Option, Some, None}
 use Rattle.def_entry.specs.Tables.{EntryTable}
 use Rattle.reply.specs.declared.options.Options.{Options}
 use Rattle.column_convert.specs.declared.block.Block.{Block}
-use Rattle.column_convert.specs.Rows.{ColumnRow, queries, rows}
+use Rattle.column_convert.specs.declared.column_row.ColumnRow.{ColumnRow}
+use Rattle.column_convert.specs.Rows.{queries, rows}
 use Rattle.column_convert.specs.Inputs.{ColumnInput, rest_of_column_input}
 
 -- the bytes of rows, one after another
@@ -14,11 +15,19 @@ text_of_rows (row ∷ rows) = row.text ++ text_of_rows rows
 -- whether the cell of a row is an error
 abbrev pub is_error_row : List ColumnRow → Bool
 is_error_row [] = false
-is_error_row (row ∷ rows) = row.cell_refused || is_error_row rows
+is_error_row (row ∷ rows) = row.refused || is_error_row rows
 
 -- rows as a block
 abbrev pub block_of_rows : List ColumnRow → Block
 block_of_rows rows = record { text = text_of_rows rows; rows = length rows; refused = is_error_row rows }
+
+-- the row of a block of at most one row, if it has one
+abbrev pub row_if_any : (rows : ℕ) → ColumnRow → Option ColumnRow
+row_if_any zero row = None
+row_if_any (suc n) row = Some row
+
+abbrev pub only_row_of_block : Block → Option ColumnRow
+only_row_of_block block = row_if_any block.rows (record { text = block.text; refused = block.refused })
 
 -- the next n records, or fewer if fewer are left
 abbrev pub first_records : ℕ → ColumnInput → ColumnInput

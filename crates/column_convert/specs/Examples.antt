@@ -1,15 +1,16 @@
 -- The rows of a few inputs over a small table, worked out by hand.
 use Rattle.std.specs.Prelude.{◌≡◌, ℕ, true, false, List, [], ◌∷◌, codes}
 use Rattle.reply.specs.Examples.{default_reply_options, small_reply_table}
-use Rattle.column_convert.specs.Rows.{ColumnRow, queries, rows}
+use Rattle.column_convert.specs.declared.column_row.ColumnRow.{ColumnRow}
+use Rattle.column_convert.specs.Rows.{queries, rows}
 use Rattle.column_convert.specs.Cells.{cell_conversion_text, first_cell_line, is_signed_cell_numeral}
 use Rattle.column_convert.specs.Inputs.{ColumnInput, column_input_of_text}
 
 abbrev pub unchanged_row : List ℕ → ColumnRow
-unchanged_row text = record { text = text; cell_refused = false }
+unchanged_row text = record { text = text; refused = false }
 
 abbrev pub error_row : List ℕ → ColumnRow
-error_row text = record { text = text; cell_refused = true }
+error_row text = record { text = text; refused = true }
 
 -- an input with a header, of which the first column is converted
 abbrev pub column_input_with_header : List ℕ → ColumnInput

@@ -4,7 +4,7 @@ use Rattle.std.specs.declared.alloc.Global.{Global}
 use Rattle.std.specs.Io.KnownBytes.{Appends}
 use Rattle.csv.specs.Writing.{default_writer, fields_written, has_written, text_written, with_flexible, writer_setup}
 use Rattle.csv.specs.declared.writer.Writer.{Writer}
-use Rattle.column_convert.specs.Rows.{ColumnRow}
+use Rattle.column_convert.specs.declared.column_row.ColumnRow.{ColumnRow}
 
 -- everything that a writer wrote
 abbrev pub record_writer_text : Writer (Vec ℕ Global) → Option (List ℕ)
@@ -23,7 +23,7 @@ RecordWriterAppends before after text = Appends (record_writer_text before) (rec
 -- the writer has appended this row, and `refused` says whether its cell is an error
 pub record IsRowWritten (before after : Writer (Vec ℕ Global)) (refused : Bool) (row : ColumnRow) : Type 0 where
   pub appends_text : RecordWriterAppends before after row.text
-  pub refused_is : refused ≡ row.cell_refused
+  pub refused_is : refused ≡ row.refused
 
 -- the writer has appended the next row, or nothing if there is none
 abbrev pub IsNextRowWritten : (before after : Writer (Vec ℕ Global)) → Option Bool → Option ColumnRow → Type 0

@@ -6,24 +6,20 @@ use Rattle.def_entry.specs.Tables.{EntryTable}
 use Rattle.live_table.specs.States.{LiveEvent}
 use Rattle.reply.specs.declared.options.Options.{Options}
 use Rattle.column_convert.specs.declared.cell.Cell.{Cell}
+use Rattle.column_convert.specs.declared.column_row.ColumnRow.{ColumnRow}
 use Rattle.column_convert.specs.Cells.{cell, cell_queries}
 use Rattle.column_convert.specs.Inputs.{ColumnInput, rest_of_column_input}
 use Rattle.column_convert.specs.Records.{RecordFields}
 
--- a row as it is written, and whether its cell is an error
-pub record ColumnRow : Type 0 where
-  pub text : List ℕ
-  pub cell_refused : Bool
-
 -- the row of a record that stays as it is
 abbrev pub row_of_unchanged_record : RecordFields → ColumnRow
-row_of_unchanged_record fields = record { text = row_text default_writer fields; cell_refused = false }
+row_of_unchanged_record fields = record { text = row_text default_writer fields; refused = false }
 
 -- the row of a record with this cell at a place
 abbrev pub cell_row : RecordFields → (place : ℕ) → Cell → ColumnRow
 cell_row fields place cell = record {
   text = row_text default_writer (slice_set fields place cell.text);
-  cell_refused = cell.refused;
+  refused = cell.refused;
 }
 
 module _ (table : EntryTable) (options : Options) (from to : List ℕ) where

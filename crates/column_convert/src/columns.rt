@@ -11,6 +11,7 @@ ghost use Rattle.column_convert.specs.Rows as spec;
 ghost use Rattle.column_convert.specs.RecordWriter.{IsNextRowWritten, record_writer_text};
 
 use crate::block::Block;
+use crate::column_row::{ColumnRow, only_row};
 use crate::draft::Draft;
 use crate::memory::Memory;
 use crate::record_writer::{finish_writer, new_writer};
@@ -18,7 +19,7 @@ use crate::records::Records;
 use crate::row::ColumnRecord;
 use csv::ByteRecord;
 use live_table::LiveTable;
-use reply::Question;
+use reply::{Options, Question};
 use std::alloc::{AllocError, Global};
 use std::marker::Model;
 use std::sync::ledger::Ledger;
@@ -63,6 +64,30 @@ impl Columns {
             place: column - 1,
             headed: header,
         })
+    }
+
+    /// Returns the next row, or `None` if and only if none is left. See [`Columns::next_rows`], which it calls.
+    pub fn next_row<L: Ledger>(
+        &mut self,
+        alloc: Global,
+        table: &mut LiveTable,
+        options: &Options,
+        from: &[u8],
+        to: &[u8],
+        steps: &mut Steps<L>,
+    ) -> Result<Option<ColumnRow>, AllocError>
+        requires { AreReplyOptionsPrintable options.now }
+        ensures row { IfOk result (λ row. row
+            ≡ spec.next_row (tables.table_of_deck table.old.deck) options.now from.now to.now self.old) }
+        ensures left { OnOk result (self.new ≡ rest_of_column_input self.old) }
+        ensures queries { AreLiveQueries
+            (spec.next_queries (tables.table_of_deck table.old.deck) options.now from.now to.now self.old)
+            result table.old table.new steps.old steps.new }
+        ensures deck { table.new.deck ≡ table.old.deck }
+    {
+        let question = Question { options, from, to };
+        let block = self.next_rows(alloc, table, &question, 1, steps)?;
+        Ok(only_row(block))
     }
 
     /// Returns the next rows as a block: `most` rows, or fewer if fewer are left; none exactly if none is left or

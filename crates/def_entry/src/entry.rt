@@ -1,12 +1,13 @@
 //! Entries: the definitions that lines give to their keys.
 
-ghost use Rattle.std.specs.Prelude.{◌≡◌};
+ghost use Rattle.std.specs.Prelude.{◌≡◌, IfOk};
 ghost use Rattle.def_entry.specs.Views.{entry_view};
 
 use crate::line_head::heading_in;
 use expr_tree::{Tree, Trees};
 use frac128::Frac;
 use piecewise::Points;
+use std::alloc::{AllocError, Global};
 use units_io::Text;
 
 /// The definition that a line gives to its key. The text of an entry is part of its line, which is the only copy of
@@ -25,6 +26,13 @@ impl<'a> Entry<'a> {
         ensures { result.now ≡ (entry_view self.entry).text }
     {
         heading_in(self.line).text
+    }
+
+    /// Returns an equal entry, which borrows the same line.
+    pub fn copy(&self, _alloc: Global) -> Result<Entry<'a>, AllocError>
+        ensures { IfOk result (λ copy. entry_view copy ≡ entry_view self.now) }
+    {
+        Ok(*self)
     }
 }
 

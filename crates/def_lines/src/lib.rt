@@ -19,4 +19,4 @@ pub use kind::{LineKind, classify};
 pub use line::{LentLine, Line};
 pub use line_list::Lines;
 pub use physical::{clean, line_content};
-pub use words::{cut_word, is_listed, split_word};
+pub use words::{cut_word, listed, split_word};

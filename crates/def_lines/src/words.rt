@@ -28,7 +28,7 @@ pub fn cut_word(text: &[u8]) -> (&[u8], &[u8])
 }
 
 /// Reports whether the value is one of the words of a text.
-pub fn is_listed(values: &[u8], value: &[u8]) -> bool
+pub fn listed(values: &[u8], value: &[u8]) -> bool
     ensures { result ≡ spec.is_listed values.now value.now }
 {
     let mut rest = trim_front(values);

@@ -1,7 +1,7 @@
 -- The answers to queries: a status, and a text for the caller.
 use Rattle.std.specs.Prelude.{ℕ, List, Bool, true, false, Option, Some, None, Result, Ok, Err, if◌then◌else◌}
 use Rattle.column_convert.specs.Blocks.{is_error_row, text_of_rows}
-use Rattle.column_convert.specs.Rows.{ColumnRow}
+use Rattle.column_convert.specs.declared.column_row.ColumnRow.{ColumnRow}
 use Rattle.def_entry.specs.Tables.{EntryTable}
 use Rattle.def_lines.specs.Blanks.{trimmed_of_blanks}
 use Rattle.frac128.specs.Fraction.{Fraction}

@@ -43,4 +43,5 @@ pub use laws::{
     run_law, steps_law,
 };
 pub use live_table::LiveTable;
+pub use table_names::NameFault;
 pub use tried_keys::TriedKeys;

@@ -305,8 +305,8 @@ impl LiveTable {
         let prefixes = self.deck.key_count(Kind::Prefix);
         let functions = self.deck.key_count(Kind::Func);
         Counts {
-            settled: self.nodes.settled_count,
-            names: units + prefixes + functions,
+            settled: self.nodes.settled_count as u64,
+            names: (units + prefixes + functions) as u64,
             reductions: self.reductions,
         }
     }

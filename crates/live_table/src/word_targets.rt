@@ -14,7 +14,7 @@ use crate::tried_keys::TriedKeys;
 use crate::tried_numbers::{gather_others, number_targets};
 use deck::Deck;
 use expr_tree::{WordUse, is_refused};
-use name_lookup::resolve;
+use name_lookup::find_targets;
 use std::alloc::{AllocError, Global};
 use table_names::lookup_law;
 
@@ -54,7 +54,7 @@ pub(crate) fn destination_of(
     }
     lookup_law();
     tried.clear();
-    let targets = resolve(alloc, &DeckTable(deck), tried, u.text(), u.kind())?;
+    let targets = find_targets(alloc, &DeckTable(deck), tried, u.text(), u.kind())?;
     if targets.count() == 0 {
         return Ok(Destination::Nowhere);
     }
@@ -83,6 +83,6 @@ pub(crate) fn query_destination(
     }
     lookup_law();
     tried.clear();
-    let targets = resolve(alloc, &DeckTable(deck), tried, u.text(), u.kind())?;
+    let targets = find_targets(alloc, &DeckTable(deck), tried, u.text(), u.kind())?;
     number_targets(alloc, deck, nodes, tried, targets)
 }

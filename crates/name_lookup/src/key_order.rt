@@ -25,7 +25,7 @@ use std::alloc::{AllocError, Global};
 /// a word after a `~` can only be a function. A word alone or before an argument that is neither may be a plural in
 /// `s`, `es` or `ies`: of a unit, or of a prefix with or without a unit, the longest prefix first. Otherwise it may
 /// itself be a prefix with or without a unit. The only error is running out of memory.
-pub fn resolve<P: Present, L: Looking>(
+pub fn find_targets<P: Present, L: Looking>(
     alloc: Global,
     table: &P,
     looking: &mut L,

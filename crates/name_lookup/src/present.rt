@@ -21,4 +21,11 @@ pub trait Present {
     fn find(&self, kind: Kind, name: &[u8]) -> Option<usize>
         ensures present { is_some result ≡ is_entry_key_among (keys self.now) (key kind name.now) }
         ensures place { result ≡ place self.now (key kind name.now) };
+
+    /// Reports whether the key with this kind and name is present.
+    fn has(&self, kind: Kind, name: &[u8]) -> bool
+        ensures { result ≡ is_entry_key_among (keys self.now) (key kind name.now) }
+    {
+        self.find(kind, name).is_some()
+    }
 }

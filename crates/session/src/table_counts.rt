@@ -16,8 +16,8 @@ pub(crate) fn statistics(alloc: Global, table: &LiveTable) -> Result<Text, Alloc
 {
     let counts = table.counts();
     let mut text = Vec::from_slice(alloc, b"settled ")?;
-    put_count(alloc, &mut text, counts.settled as u64, b" of ")?;
-    put_count(alloc, &mut text, counts.names as u64, b", reductions ")?;
+    put_count(alloc, &mut text, counts.settled, b" of ")?;
+    put_count(alloc, &mut text, counts.names, b", reductions ")?;
     put_count(alloc, &mut text, counts.reductions, b"\n")?;
     Ok(Text::from(text))
 }

@@ -24,7 +24,7 @@ pub fn meets_law()
     ensures { MeetsLaw }
 {}
 
-/// The lookup of a word in a table is the result of the plan of `resolve` among the keys of its entries.
+/// The lookup of a word in a table is the result of the plan of `find_targets` among the keys of its entries.
 pub fn lookup_law()
     ensures { TableNameLookupLaw }
 {}

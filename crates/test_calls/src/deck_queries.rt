@@ -101,7 +101,7 @@ fn put_messages(alloc: Global, deck: &Deck, out: &mut AnswerWriter) {
 
 // Appends the texts of the lines that define keys.
 fn put_defining_lines(alloc: Global, deck: &Deck, out: &mut AnswerWriter) {
-    match deck.defining_line_texts(alloc) {
+    match deck.defining(alloc) {
         Ok(texts) => put_texts(out, &texts),
         Err(AllocError) => out.leave_out(),
     }

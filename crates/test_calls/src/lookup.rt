@@ -8,9 +8,8 @@ ghost use Rattle.def_entry.specs.SameKeys.{is_same_entry_key, is_same_key_kind};
 use crate::lines::{AnswerWriter, CallFault, key_in, meaning_of, split_at_space};
 use def_entry::{Key, Keys, Kind};
 use expr_tree::WordKind;
-use name_lookup::{Looking, Present, resolve};
+use name_lookup::{Present, resolve};
 use std::alloc::{AllocError, Global};
-use units_io::Text;
 
 // A list of keys as a table.
 #[derive(Drop)]
@@ -62,32 +61,6 @@ fn is_kind(kind: Kind, other: Kind) -> bool
     kind == other
 }
 
-// The keys that were looked at.
-#[derive(Drop)]
-struct Looked {
-    keys: Keys,
-}
-
-impl Looking for Looked {
-    ghost looked = { λ looked. looked.keys };
-
-    ghost can_look = { λ _ _. Unit {0} };
-
-    ghost is_kept = { λ _ _ _. Unit {0} };
-
-    fn look<P: Present>(
-        &mut self,
-        alloc: Global,
-        table: &P,
-        kind: Kind,
-        name: &[u8],
-    ) -> Result<bool, AllocError> {
-        let text = Text::from_bytes(alloc, name)?;
-        self.keys.push(alloc, Key { kind, name: text })?;
-        Ok(table.find(kind, name).is_some())
-    }
-}
-
 // The words for the positions of a word.
 const POSITIONS: &[(&[u8], WordKind)] = &[
     (b"plain", WordKind::Plain),
@@ -111,23 +84,17 @@ pub(crate) fn put_lookup(
     Ok(())
 }
 
-// Appends the keys that a word of this kind leads to, which are the last of those that were looked at, and all of
-// these.
+// Appends the keys that a word of this kind refers to, and those that were looked at.
 fn put_found(alloc: Global, table: &Table, word: &[u8], kind: WordKind, out: &mut AnswerWriter) {
-    let keys = Keys::new(alloc);
-    let mut looked = Looked { keys };
-    match resolve(alloc, table, &mut looked, word, kind) {
-        Ok(targets) => put_looked(looked.keys.as_slice(), targets.count(), out),
+    match resolve(alloc, table, word, kind) {
+        Ok(found) => {
+            out.put(b"found");
+            put_keys(out, found.targets.as_slice());
+            out.put(b"; looked at");
+            put_keys(out, found.looked.as_slice());
+        }
         Err(AllocError) => out.leave_out(),
     }
-}
-
-// Appends the last `count` keys, and all keys.
-fn put_looked(keys: &[Key], count: usize, out: &mut AnswerWriter) {
-    out.put(b"found");
-    put_keys(out, &keys[keys.len().saturating_sub(count)..]);
-    out.put(b"; looked at");
-    put_keys(out, keys);
 }
 
 // Appends the texts of keys, each after a space.

@@ -82,7 +82,7 @@ fn put_outcome(alloc: Global, outcome: &Result<Quantity, QueryFault>, out: &mut 
 // the table was created.
 pub(crate) fn put_counts(live: &LiveTable, out: &mut AnswerWriter) {
     let counts = live.counts();
-    out.put_count(counts.settled, b" settled, ");
-    out.put_count(counts.names, b" names, ");
+    out.put_count(counts.settled as usize, b" settled, ");
+    out.put_count(counts.names as usize, b" names, ");
     out.put_count(counts.reductions as usize, b" reductions");
 }

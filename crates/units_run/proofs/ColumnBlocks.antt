@@ -16,7 +16,8 @@ use Rattle.column_convert.specs.Blocks.{text_of_rows}
 use Rattle.column_convert.specs.declared.block.Block.{Block}
 use Rattle.column_convert.specs.Inputs.{ColumnInput, rest_of_column_input}
 use Rattle.column_convert.specs.Records.{RecordFields}
-use Rattle.column_convert.specs.Rows.{ColumnRow, queries, rows}
+use Rattle.column_convert.specs.declared.column_row.ColumnRow.{ColumnRow}
+use Rattle.column_convert.specs.Rows.{queries, rows}
 use Rattle.units_run.proofs.WrittenBytes.{column_run_front_of_all, column_run_front_of_both, column_run_front_of_more}
 use Rattle.units_run.proofs.WrittenBytes.{column_run_sink_grows_by_none, column_run_sink_grows_twice}
 
@@ -30,8 +31,8 @@ column_run_text_of_both (x ∷ xs) ys =
 column_run_refused_in_both : (xs ys : List ColumnRow) → is_error_row (xs ++ ys) ≡ (is_error_row xs || is_error_row ys)
 column_run_refused_in_both [] ys = refl
 column_run_refused_in_both (x ∷ xs) ys =
-    ap (λ b. x.cell_refused || b) (column_run_refused_in_both xs ys)
-    ∙ sym (or_assoc x.cell_refused (is_error_row xs) (is_error_row ys))
+    ap (λ b. x.refused || b) (column_run_refused_in_both xs ys)
+    ∙ sym (or_assoc x.refused (is_error_row xs) (is_error_row ys))
 
 -- ---- the number of rows left
 column_run_row_count : (t : EntryTable) (options : Options) (from to : List ℕ) (i : ColumnInput)

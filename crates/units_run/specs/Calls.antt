@@ -3,7 +3,8 @@ use Rattle.std.specs.Prelude.{ℕ, List, if◌then◌else◌}
 use Rattle.deck.specs.Tables.{table_of_deck}
 use Rattle.column_convert.specs.Inputs.{column_input_of_text}
 use Rattle.column_convert.specs.Blocks.{is_error_row, text_of_rows}
-use Rattle.column_convert.specs.Rows.{ColumnRow, queries, rows}
+use Rattle.column_convert.specs.declared.column_row.ColumnRow.{ColumnRow}
+use Rattle.column_convert.specs.Rows.{queries, rows}
 use Rattle.units_io.specs.FileMap.{FileMap}
 use Rattle.units_io.specs.NamedValues.{NamedTexts}
 use Rattle.session.specs.HeardLines.{heard_lines}

@@ -2,7 +2,7 @@
 use Rattle.std.specs.Prelude.{◌≡◌, ℕ, Bool, true, false, List, if◌then◌else◌}
 use Rattle.std.specs.declared.option.Option.{Option}
 pub use Rattle.column_convert.specs.Blocks.{is_error_row, text_of_rows}
-use Rattle.column_convert.specs.Rows.{ColumnRow}
+use Rattle.column_convert.specs.declared.column_row.ColumnRow.{ColumnRow}
 use Rattle.units_io.specs.Bytes.{sink_bytes_append, SinkGrowsByPrefix}
 use Rattle.units_run.specs.declared.column_end.ColumnEnd.{ColumnEnd}
 use Rattle.units_run.specs.declared.column_end.ColumnEnd.TheVariants.{Done, Refused, ReadFault, InputTooLong}

@@ -3,7 +3,8 @@ use Rattle.std.specs.Prelude.{ℕ, List}
 use Rattle.deck.specs.Tables.{table_of_deck}
 use Rattle.live_table.specs.States.{LiveEvent}
 use Rattle.column_convert.specs.Inputs.{ColumnInput, column_input_of_text}
-use Rattle.column_convert.specs.Rows.{ColumnRow, queries, rows}
+use Rattle.column_convert.specs.declared.column_row.ColumnRow.{ColumnRow}
+use Rattle.column_convert.specs.Rows.{queries, rows}
 use Rattle.units_run.specs.declared.column_task.ColumnTask.{ColumnTask}
 
 -- the rows of these records, and the queries that their cells make

@@ -12,7 +12,7 @@ use deck::Deck;
 use def_entry::{Key, Kind};
 use expr_tree::{WordKind, WordUse};
 use live_table::{DeckTable, TriedKeys};
-use name_lookup::{Targets, resolve};
+use name_lookup::{Targets, find_targets};
 use std::alloc::{AllocError, Global};
 use table_names::lookup_law;
 use units_io::Text;
@@ -37,7 +37,7 @@ impl<'a> Lookup<'a> {
         lookup_law();
         tried.clear();
         let table = DeckTable(self.deck);
-        match resolve(self.alloc, &table, tried, word.text(), word.kind())? {
+        match find_targets(self.alloc, &table, tried, word.text(), word.kind())? {
             Targets::Nowhere => Ok(Destination::Nowhere),
             Targets::Last => Ok(Destination::One(self.last_key(tried, 1)?)),
             Targets::LastTwo => {

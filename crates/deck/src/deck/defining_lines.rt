@@ -21,7 +21,7 @@ impl Deck {
 
     /// Returns the texts of the active lines that define a key, in order. No line is parsed again. The only error is
     /// running out of memory.
-    pub fn defining_line_texts(&self, alloc: Global) -> Result<Texts, AllocError>
+    pub fn defining(&self, alloc: Global) -> Result<Texts, AllocError>
         ensures { IfOk result (λ texts. texts ≡ spec.active_definition_texts self.now) }
     {
         let flags = active_flags(alloc, &self.store, &self.settings)?;

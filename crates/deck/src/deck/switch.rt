@@ -13,7 +13,7 @@ use std::alloc::Global;
 
 impl Deck {
     /// Replaces the settings, and returns the keys whose entries change. The only error is running out of memory; then
-    /// nothing changes. Makes one pass over the deck.
+    /// nothing changes. Takes time in proportion to all lines and names of the deck, whatever the settings change.
     pub fn switch(&mut self, alloc: Global, settings: Settings) -> Result<Keys, DeckFault>
         ensures { edit.IsDeckEdit (Ok (edit.deck_after_switching settings self.old)) self.old self.new result }
     {

@@ -7,7 +7,7 @@ ghost use Rattle.deck_lines.specs.declared.line.DeckLine.{DeckLine};
 ghost use Rattle.deck.specs.Active as spec;
 
 use super::in_force::InForce;
-use def_lines::{LineKind, classify, is_listed};
+use def_lines::{LineKind, classify, listed};
 use std::alloc::{AllocError, Global};
 use std::marker::Model;
 use units_io::{Text, Vars};
@@ -145,7 +145,7 @@ impl<'a> Surroundings<'a> {
         ensures { result ≡ spec.is_setting_value_listed values.now (named_text self.now.vars name.now) }
     {
         match self.value(name) {
-            Some(value) => is_listed(values, value.as_bytes()),
+            Some(value) => listed(values, value.as_bytes()),
             None => false,
         }
     }

@@ -26,7 +26,7 @@ returns-clause-destination c =
     let t = table_of_deck c.args.deck.now in
     let u = c.args.u.now in
     let which = c.in_ok-targets.targets in
-    let tried = c.resolve.new.looking in
+    let tried = c.find_targets.new.looking in
     let first = c.gather_others.new.nodes in
     let then = c.number_targets.new.nodes in
     let found : AreLookupTargetsFound which [] tried (table_word_lookup t u) =
@@ -47,7 +47,7 @@ returns-then-count-eq0-clause-destination c =
     let t = table_of_deck c.args.deck.now in
     let u = c.args.u.now in
     let which = c.in_ok-targets.targets in
-    let tried = c.resolve.new.looking in
+    let tried = c.find_targets.new.looking in
     let found : AreLookupTargetsFound which [] tried (table_word_lookup t u) =
     node_targets_found_by_search t u c.lookup_law.ensures which c.clear.new.self tried c.kind.result c.text-2.result.now
     c.clear.ensures c.kind.ensures c.text-2.ensures c.in_ok-targets.ensures.found in

@@ -8,7 +8,8 @@ use Rattle.live_table.specs.TableView.{IsAfterLiveEvents}
 use Rattle.reply.proofs.Runs.{inquiry_queries_made_or_cut}
 use Rattle.column_convert.specs.Inputs.{ColumnInput}
 use Rattle.column_convert.specs.Blocks.{block_of_rows}
-use Rattle.column_convert.specs.Rows.{ColumnRow, next_row}
+use Rattle.column_convert.specs.declared.column_row.ColumnRow.{ColumnRow}
+use Rattle.column_convert.specs.Rows.{next_row}
 use Rattle.column_convert.specs.RecordWriter.{IsNextRowWritten, record_writer_text}
 use Rattle.column_convert.proofs.AnyLength.{record_text_is_appended}
 use Rattle.column_convert.proofs.CutQueries.{cell_queries_are_cut_off}

@@ -1,7 +1,7 @@
 use Rattle.std.proofs.Common.{◌∙◌, List, inl, inr, refl, sym, ap, subst, arith}
 use Rattle.units_io.specs.Bytes.{sink_bytes_append, SinkGrowsByPrefix}
 use Rattle.session.specs.Outside.{SessionOutside}
-use Rattle.column_convert.specs.Rows.{ColumnRow}
+use Rattle.column_convert.specs.declared.column_row.ColumnRow.{ColumnRow}
 use Rattle.units_run.specs.ColumnOutputs.{AreColumnRunRowsWritten}
 use Rattle.units_run.specs.Calls.{column_run}
 use Rattle.units_run.specs.Endings.{IsRunColumnOutput, IsStatedRunEnd, IsWorkedRunEnd}

@@ -15,25 +15,25 @@ pub returns-in-Nowhere : goal.returns-in-Nowhere
 returns-in-Nowhere c =
     let t = table_of_deck c.args.self.now.deck.now in
     let u = c.args.word.now in
-    let tried = c.resolve.new.looking in
+    let tried = c.find_targets.new.looking in
     none_found t u tried (source_targets_found t u c.lookup_law.ensures which.Nowhere c.clear.new.self tried
     c.kind.result
     c.text.result.now c.clear.ensures c.kind.ensures c.text.ensures
     (subst (λ (w : Targets). AreLookupTargetsFound w c.clear.new.self tried
     (run_lookup_plan (is_entry_key_among (keys_of_entries t)) (lookup_plan c.kind.result c.text.result.now)))
     c.in-Nowhere.is
-    c.in_ok-resolve.ensures.found))
+    c.in_ok-find_targets.ensures.found))
 
 pub returns-in_ok-last_key-in-Last : goal.returns-in_ok-last_key-in-Last
 returns-in_ok-last_key-in-Last c =
     let t = table_of_deck c.args.self.now.deck.now in
     let u = c.args.word.now in
-    let tried = c.resolve.new.looking in
+    let tried = c.find_targets.new.looking in
     one_found t u tried (source_targets_found t u c.lookup_law.ensures which.Last c.clear.new.self tried c.kind.result
     c.text.result.now c.clear.ensures c.kind.ensures c.text.ensures
     (subst (λ (w : Targets). AreLookupTargetsFound w c.clear.new.self tried
     (run_lookup_plan (is_entry_key_among (keys_of_entries t)) (lookup_plan c.kind.result c.text.result.now)))
     c.in-Last.is
-    c.in_ok-resolve.ensures.found))
+    c.in_ok-find_targets.ensures.found))
     (length tried - 1) refl
     ∙ ap (λ (k : Key). k ∷ []) (sym c.in_ok-last_key-in-Last.ensures)

@@ -1,6 +1,6 @@
 use Rattle.def_entry.specs.SameKeys.{is_entry_key_among}
 use Rattle.name_lookup.proofs.Finding.{lookup_finds_first_candidate, lookup_finds_result_of_plan}
-use Rattle.name_lookup.proofs.key_order.resolve.Goals as goal
+use Rattle.name_lookup.proofs.key_order.find_targets.Goals as goal
 
 pub returns-clause-chosen : goal.returns-clause-chosen
 returns-clause-chosen g c =

@@ -4,7 +4,7 @@ use Rattle.deck.specs.Active.{active_lines}
 use Rattle.deck.specs.Decks.{DeckContents}
 use Rattle.deck.specs.Messages.{active_lines_by_flags, deck_definition_text, texts_of_deck_lines}
 use Rattle.deck.proofs.ActiveLineFlags.{length-active_line_flags}
-use Rattle.deck.proofs.deck.Deck.defining_line_texts.Goals as goal
+use Rattle.deck.proofs.deck.Deck.defining.Goals as goal
 
 pub defining_texts-requires : goal.defining_texts-requires
 defining_texts-requires c =

@@ -5,7 +5,7 @@ use Rattle.def_lines.specs.Parts.{begins_without_blank}
 use Rattle.def_lines.proofs.TrimmedTexts.{begins_without_blank-after_blanks}
 use Rattle.def_lines.proofs.WordLists.{begins_without_blank-after_word, is_listed-after_blanks, is_listed-first}
 use Rattle.def_lines.proofs.WordLists.{is_listed-none, text_after_word_and_blanks_shorter}
-use Rattle.def_lines.proofs.words.is_listed.Goals as goal
+use Rattle.def_lines.proofs.words.listed.Goals as goal
 
 pub loop-value-init : goal.loop-value-init
 loop-value-init c = record {

@@ -1,7 +1,7 @@
 use Rattle.std.proofs.Common.{◌≡◌, length, true}
 use Rattle.def_lines.specs.Parts.{begins_without_blank}
 use Rattle.def_lines.specs.Words.{is_listed}
-use Rattle.def_lines.proofs.words.is_listed.Given as goal
+use Rattle.def_lines.proofs.words.listed.Given as goal
 
 abbrev pub invariant-loop-value : goal.invariant-loop-value
 invariant-loop-value l = record {
