@@ -1,5 +1,6 @@
 -- The parts of each kind of tree: they are lighter than the tree, and their words are among those of the tree.
 use Rattle.std.proofs.Common.{◌≡◌, ◌<◌, ◌+◌, ◌*◌, ℕ, suc, List, ◌++◌, length, sym, ap, subst, arith, Option, Result}
+use Rattle.std.proofs.Common.{Ok, Err, length-append}
 use Rattle.std.specs.Prelude.{OnOk}
 use Rattle.expr_tree.specs.declared.operator.RootKind.{RootKind}
 use Rattle.expr_tree.specs.declared.word_list.WordUse.{WordUse}
@@ -7,14 +8,17 @@ use Rattle.expr_tree.specs.Syntax as tree
 use Rattle.expr_tree.specs.Syntax.{Syntax}
 use Rattle.expr_tree.specs.Words.{words_in}
 use Rattle.quantity.specs.Amount.{Amount}
+use Rattle.quantity.specs.Powers.{quantity_power}
 use Rattle.tree_eval.specs.declared.fault.EvalFault.{EvalFault}
 use Rattle.tree_eval.specs.Answers.{GivesValueOrFault}
 use Rattle.tree_eval.specs.Environment.{IsEvalWordRun}
-use Rattle.tree_eval.specs.Expansions.{EvalMeaning}
+use Rattle.tree_eval.specs.Expansions.{EvalMeaning, Expanded, Power}
 use Rattle.tree_eval.specs.Expansion.{expand}
 use Rattle.tree_eval.specs.declared.step.Step.{Step}
 use Rattle.tree_eval.specs.Operands.{chain, words_of_operands}
+use Rattle.tree_eval.specs.Steps.{value_of_quantity_step}
 use Rattle.tree_eval.specs.Value.{value}
+use Rattle.units_io.specs.Outcomes.{◌>>=◌}
 use Rattle.tree_eval.proofs.MemberChains.{IsChain}
 use Rattle.tree_eval.proofs.Places.{left_eval_words_at_run, right_eval_words_at_run}
 use Rattle.tree_eval.proofs.Weight.{weight}
@@ -72,6 +76,21 @@ module _ (us : List WordUse) (p : ℕ) (b x : Syntax) (s : IsEvalWordRun us p (w
   pub exponent_stands : {q : ℕ} → q ≡ p + length (words_in b) → IsEvalWordRun us q (words_in x)
   exponent_stands n = subst (λ k. IsEvalWordRun us k (words_in x)) (sym n)
       (right_eval_words_at_run us p (words_in b) (words_in x) s)
+
+-- the end of the words of the exponent is that of both
+pub power_ends : {A : Type 0} (r : Result A EvalFault) (b x : Syntax) (p q n : ℕ) → q ≡ p + length (words_in b)
+    → OnOk r (n ≡ q + length (words_in x)) → OnOk r (n ≡ p + length (words_in b ++ words_in x))
+power_ends (Ok y) b x p q n h k = omega (arith, h, k, length-append (words_in b) (words_in x))
+power_ends (Err e) b x p q n h k = tt
+
+-- if the base has a value, a result for its power is a result for the whole
+pub power_gives : {v : Amount} (x y : Expanded) (a : Option Amount) → value x a ≡ Ok v → {A : Type 0}
+    (seen : A → Amount) (r : Result A EvalFault)
+    → GivesValueOrFault seen r (value y a >>= λ w. value_of_quantity_step (quantity_power v w))
+    → GivesValueOrFault seen r (value (Power x y) a)
+power_gives x y a is seen r =
+    subst (λ k. GivesValueOrFault seen r (k >>= λ v. value y a >>= λ w. value_of_quantity_step (quantity_power v w)))
+    (sym is)
 
 -- a tree that is a list of members
 module _ {means : WordUse → EvalMeaning} {e : Syntax} {os : List (Step × Syntax)} (is : IsChain means e os) where

@@ -1,5 +1,6 @@
 -- Steps that may have a fault, by the results of calls.
-use Rattle.std.proofs.Common.{◌≡◌, Result, Err, ◌∙◌, ap}
+use Rattle.std.proofs.Common.{◌≡◌, Result, Ok, Err, ◌∙◌, ap, subst, sym}
+use Rattle.std.specs.Prelude.{OnOk}
 use Rattle.tree_eval.specs.declared.fault.EvalFault.{EvalFault}
 use Rattle.tree_eval.specs.declared.fault.EvalFault.TheVariants.{Value, OutOfMemory}
 use Rattle.tree_eval.specs.declared.fault.ValueFault.{ValueFault}
@@ -12,3 +13,18 @@ pub first_eval_step_fault : {A B C D : Type 0} (view : A → B) (seen : D → C)
     → w ≡ (r >>= k) → GivesValueOrFault view (Err e) r → GivesValueOrFault seen (Err e) w
 first_eval_step_fault view seen (Value f) r k w p h = p ∙ ap (λ x. x >>= k) h
 first_eval_step_fault view seen OutOfMemory r k w p h = tt
+
+-- if an evaluation has a value, a result for a step with it is a result for both
+pub evaluated_value : {A B C : Type 0} (view : A → B) (r : Result A EvalFault) (expected : Result B ValueFault)
+    (k : B → Result C ValueFault) → GivesValueOrFault view r expected → {x : A} → r ≡ Ok x
+    → {D : Type 0} (seen : D → C) (y : Result D EvalFault)
+    → GivesValueOrFault seen y (k (view x)) → GivesValueOrFault seen y (expected >>= k)
+evaluated_value view r expected k h {x} is seen y =
+    let w : expected ≡ Ok (view x) = subst (λ z. GivesValueOrFault view z expected) is h in
+    subst (λ z. GivesValueOrFault seen y (z >>= k)) (sym w)
+
+-- what holds after an evaluation with a value holds after the step that follows it
+pub after_evaluated : {A B E F : Type 0} (y : Result A E) (r : Result B F) (P : Type 0) {x : B} → r ≡ Ok x → OnOk r P
+    → OnOk y P
+after_evaluated (Ok y) r P is h = subst (λ z. OnOk z P) is h
+after_evaluated (Err f) r P is h = tt

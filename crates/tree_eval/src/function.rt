@@ -69,6 +69,24 @@ pub fn unapply<E: Env>(
     take(alloc, env, Direction::Inverse, id, value)
 }
 
+// Replaces the held quantity by the value of a function there, in the given direction.
+#[cycle(eval)]
+#[inline(never)]
+pub(crate) fn put_taken<E: Env>(
+    alloc: Global,
+    env: &E,
+    direction: Direction,
+    id: usize,
+    held: &mut Held<'_>,
+) -> Result<(), EvalFault>
+    requires { IsTrue (E.has env.now id) }
+    ensures { GivesValueOrFault (λ _. amount_of_held_value held.new) result
+        (direction_value direction (E.callee env.now id) (amount_of_held_value held.old)) }
+{
+    let value = take(alloc, env, direction, id, held.get());
+    held.store_value(value)
+}
+
 // Evaluates a function, an alias or a table in the given direction.
 #[cycle(eval)]
 pub(crate) fn take<E: Env>(

@@ -6,6 +6,7 @@ ghost use Rattle.quantity.specs.Answers.{IsQuantityAnswer};
 ghost use Rattle.quantity.specs.Products.{quantity_product};
 ghost use Rattle.tree_eval.specs.Answers.{GivesValueOrFault, IsEvalResult, amount_of_held_value};
 ghost use Rattle.tree_eval.specs.Steps.{ValueOrFault, negative_value, value_one};
+ghost use Rattle.tree_eval.specs.Value.{argument_or_one};
 
 use crate::fault::EvalFault;
 use quantity::{Quantity, QuantityFault};
@@ -34,6 +35,12 @@ impl<'a> Held<'a> {
         ensures { amount_of_held_value result ≡ value_one }
     {
         Held::Own(Quantity::unity(alloc))
+    }
+
+    // Returns a place on the heap, with the number 1. In nested calls a place in each stack frame takes too much stack.
+    #[inline(never)]
+    pub(crate) fn new_place(alloc: Global) -> Result<Box<Held<'a>>, AllocError> {
+        Ok(Box::new(alloc, Held::unity(alloc))?)
     }
 
     // Takes the quantity out and leaves 1 in its place.
@@ -105,4 +112,23 @@ pub(crate) fn lend_quantity<'b>(held: &'b Option<Held<'_>>) -> Option<&'b Quanti
         Some(held) => Some(held.get()),
         None => None,
     }
+}
+
+// Drops a place, and returns the fault of the evaluation that should have filled it.
+#[inline(never)]
+pub(crate) fn drop_place(_place: Box<Held<'_>>, fault: EvalFault) -> EvalFault
+    ensures { result ≡ fault }
+{
+    fault
+}
+
+// Stores the argument, or 1 if none is given.
+#[inline(never)]
+pub(crate) fn put_argument<'a>(alloc: Global, arg: Option<&'a Quantity>, held: &mut Held<'a>)
+    ensures { amount_of_held_value held.new ≡ argument_or_one (option_copied arg.entry) }
+{
+    *held = match arg {
+        Some(arg) => Held::Lent(arg),
+        None => Held::unity(alloc),
+    };
 }

@@ -59,6 +59,13 @@ pub(crate) fn factor_of_word(trees: &Trees) -> Option<Factor<'_>>
     }
 }
 
+// Whether the only members are a number and a word. Code that nests asks this first, since its stack frame would have to
+// have room for the factor.
+#[inline(never)]
+pub(crate) fn is_multiple(trees: &Trees) -> bool {
+    factor_of_word(trees).is_some()
+}
+
 // Returns the number that a tree states literally, if it does.
 fn number_of(tree: &Tree) -> Option<Factor<'_>>
     ensures says { IfSome result (λ factor. spec.HasNumberValue (syntax tree.now) (spec.factor_number_value factor)) }

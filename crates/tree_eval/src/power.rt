@@ -17,13 +17,13 @@ use std::alloc::Global;
 pub(crate) fn take_power(
     alloc: Global,
     held: &mut Held<'_>,
-    exponent: &Quantity,
+    exponent: Box<Held<'_>>,
 ) -> Result<(), EvalFault>
-    ensures { GivesValueOrFault (λ _. amount_of_held_value held.new) result
-        (spec.value_of_quantity_step (quantity_power (amount_of_held_value held.old) exponent.now)) }
+    ensures { GivesValueOrFault (λ _. amount_of_held_value held.new) result (spec.value_of_quantity_step
+        (quantity_power (amount_of_held_value held.old) (amount_of_held_value exponent.entry.value))) }
 {
     let base = held.take(alloc);
-    held.store_value(power(alloc, base, exponent))
+    held.store_value(power(alloc, base, exponent.get()))
 }
 
 // Replaces the held quantity by its root of the given kind.

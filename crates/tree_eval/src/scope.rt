@@ -1,14 +1,15 @@
 //! Evaluation of expressions. Calls nest as deep as an expression and the functions that it calls, up to some thousand
-//! parentheses, and so does the stack. So each call stores its value in a slot of its caller, and code that needs much
-//! stack is in separate functions that return before further calls nest.
+//! parentheses, and so does the stack. So each call stores its value in a place of its caller, which is on the heap; code
+//! that needs much stack is in separate functions, which return before further calls nest; and the functions that only
+//! choose what to call are inlined.
 
-ghost use Rattle.std.specs.Prelude.{◌≡◌, ◌+◌, ◌++◌, ◌<◌, IfOk, IsTrue, OnOk, Some, length, map, slice_get};
+ghost use Rattle.std.specs.Prelude.{◌≡◌, ◌+◌, ◌++◌, ◌<◌, IfOk, OnOk, Some, length, map, slice_get};
 ghost use Rattle.std.specs.Option.{option_copied};
 ghost use Rattle.expr_tree.specs.declared.word_list.WordUse.{WordUse};
 ghost use Rattle.expr_tree.specs.Trees.{syntax, syntax_of_trees};
 ghost use Rattle.expr_tree.specs.Words.{words_in};
 ghost use Rattle.tree_eval.specs.Answers.{GivesValueOrFault, IsEvalResult, amount_of_held_value};
-ghost use Rattle.tree_eval.specs.Directions.{direction_value, operand_expansion};
+ghost use Rattle.tree_eval.specs.Directions.{operand_expansion};
 ghost use Rattle.tree_eval.specs.Environment.{IsEvalWordRun, IsReportedEvalMeaning};
 ghost use Rattle.tree_eval.specs.Expansions as expanded;
 ghost use Rattle.tree_eval.specs.Expansion.{eval_meaning_expansion, expand};
@@ -19,11 +20,11 @@ ghost use Rattle.tree_eval.specs.Value as spec;
 use crate::direction::Direction;
 use crate::env::Env;
 use crate::fault::EvalFault;
-use crate::function::take;
-use crate::held_quantity::Held;
+use crate::function::put_taken;
+use crate::held_quantity::{Held, drop_place, put_argument};
 use crate::holder::Holder;
 use crate::meaning::Meaning;
-use crate::multiple::{factor_of_word, put_multiple};
+use crate::multiple::{factor_of_word, is_multiple, put_multiple};
 use crate::numeral::{put_bar, put_numeral};
 use crate::operands::{Operand, Operands};
 use crate::power::{take_power, take_root};
@@ -90,7 +91,7 @@ struct Scope<'a, E> {
 impl<'a, E: Env> Scope<'a, E> {
     // Stores the value of a tree whose first word is at `place`, and moves `place` past its last word.
     #[cycle(eval)]
-    #[inline(never)]
+    #[inline(always)]
     fn evaluate(&self, tree: &Tree, place: &mut usize, held: &mut Held<'a>) -> Result<(), EvalFault>
         requires { IsEvalWordRun (E.words self.now.env.now self.now.holder) place.old (words_in (syntax tree.now)) }
         ensures value_or_fault { GivesValueOrFault (λ _. amount_of_held_value held.new) result (spec.value
@@ -113,14 +114,29 @@ impl<'a, E: Env> Scope<'a, E> {
                 place,
                 held,
             ),
-            Tree::Group(operand) => self.evaluate(operand, place, held),
+            Tree::Group(operand) => self.group(operand, place, held),
             Tree::Root(kind, operand) => self.root(*kind, operand, place, held),
             Tree::Negate(operand) => self.evaluate_negative(operand, place, held),
             Tree::Power(base, exponent) => self.power(base, exponent, place, held),
-            Tree::Juxtaposed(trees) => self.evaluate_juxtaposition(trees, place, held),
             Tree::Product(factors) => self.chain(Operands::Product(factors), place, held),
             Tree::Sum(terms) => self.chain(Operands::Sum(terms), place, held),
+            Tree::Juxtaposed(trees) if is_multiple(trees) => {
+                self.evaluate_juxtaposition(trees, place, held)
+            }
+            Tree::Juxtaposed(trees) => self.chain(Operands::Juxtaposed(trees), place, held),
         }
+    }
+
+    // Stores the value of a tree in parentheses.
+    #[cycle(eval)]
+    #[inline(never)]
+    fn group(&self, operand: &Tree, place: &mut usize, held: &mut Held<'a>) -> Result<(), EvalFault>
+        requires { IsEvalWordRun (E.words self.now.env.now self.now.holder) place.old (words_in (syntax operand.now)) }
+        ensures value_or_fault { GivesValueOrFault (λ _. amount_of_held_value held.new) result (spec.value
+            (expand (E.means self.now.env.now) (syntax operand.now)) (option_copied self.now.arg)) }
+        ensures place { OnOk result (place.new ≡ place.old + length (words_in (syntax operand.now))) }
+    {
+        self.evaluate(operand, place, held)
     }
 
     // Stores the root of a tree.
@@ -181,9 +197,11 @@ impl<'a, E: Env> Scope<'a, E> {
             + length (words_in (syntax base.now) ++ words_in (syntax exponent.now))) }
     {
         self.evaluate(base, place, held)?;
-        let mut exponent_held = Held::unity(self.alloc);
-        self.evaluate(exponent, place, &mut exponent_held)?;
-        take_power(self.alloc, held, exponent_held.get())
+        let mut exponent_held = Held::new_place(self.alloc)?;
+        match self.evaluate(exponent, place, &mut exponent_held) {
+            Ok(()) => take_power(self.alloc, held, exponent_held),
+            Err(fault) => Err(drop_place(exponent_held, fault)),
+        }
     }
 
     // Stores the value of the single word at `place`.
@@ -305,7 +323,7 @@ impl<'a, E: Env> Scope<'a, E> {
             (place.new ≡ place.old + length (words_of_operands (operands_with_steps operands.entry))) }
     {
         if operands.len() == 0 {
-            *held = Held::unity(self.alloc);
+            put_argument(self.alloc, None, held);
             return Ok(());
         }
         self.evaluate(operands.get(0).tree, place, held)?;
@@ -317,6 +335,7 @@ impl<'a, E: Env> Scope<'a, E> {
 
     // Combines the running value with one more member.
     #[cycle(eval)]
+    #[inline(always)]
     fn with_member(
         &self,
         operand: Operand<'_>,
@@ -339,9 +358,9 @@ impl<'a, E: Env> Scope<'a, E> {
         }
     }
 
-    // Combines the running value with one more member, which is evaluated into a slot of its own.
+    // Combines the running value with one more member, which is evaluated into a place of its own.
     #[cycle(eval)]
-    #[inline(never)]
+    #[inline(always)]
     fn join_member(
         &self,
         operand: Operand<'_>,
@@ -356,37 +375,10 @@ impl<'a, E: Env> Scope<'a, E> {
             (option_copied self.now.arg))) }
         ensures place { OnOk result (place.new ≡ place.old + length (words_in (syntax operand.entry.tree.now))) }
     {
-        let mut member = Held::unity(self.alloc);
-        self.evaluate(operand.tree, place, &mut member)?;
-        operand.step.take_held(self.alloc, held, &mut member)
+        let mut member = Held::new_place(self.alloc)?;
+        match self.evaluate(operand.tree, place, &mut member) {
+            Ok(()) => operand.step.take_member(self.alloc, held, member),
+            Err(fault) => Err(drop_place(member, fault)),
+        }
     }
-}
-
-// Stores the argument, or 1 if none is given.
-#[inline(never)]
-fn put_argument<'a>(alloc: Global, arg: Option<&'a Quantity>, held: &mut Held<'a>)
-    ensures { amount_of_held_value held.new ≡ spec.argument_or_one (option_copied arg.entry) }
-{
-    *held = match arg {
-        Some(arg) => Held::Lent(arg),
-        None => Held::unity(alloc),
-    };
-}
-
-// Replaces the held quantity by the value of a function there, in the given direction.
-#[cycle(eval)]
-#[inline(never)]
-fn put_taken<E: Env>(
-    alloc: Global,
-    env: &E,
-    direction: Direction,
-    id: usize,
-    held: &mut Held<'_>,
-) -> Result<(), EvalFault>
-    requires { IsTrue (E.has env.now id) }
-    ensures { GivesValueOrFault (λ _. amount_of_held_value held.new) result
-        (direction_value direction (E.callee env.now id) (amount_of_held_value held.old)) }
-{
-    let value = take(alloc, env, direction, id, held.get());
-    held.store_value(value)
 }

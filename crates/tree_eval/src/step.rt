@@ -66,17 +66,17 @@ impl Step {
     // Combines the running value with one more member in place. The result reuses the names of an owned factor if it
     // can.
     #[inline(never)]
-    pub(crate) fn take_held(
+    pub(crate) fn take_member(
         self,
         alloc: Global,
         held: &mut Held<'_>,
-        right: &mut Held<'_>,
+        right: Box<Held<'_>>,
     ) -> Result<(), EvalFault>
         ensures { GivesValueOrFault (λ _. amount_of_held_value held.new) result
-            (spec.operand_step_value self (amount_of_held_value held.old) (amount_of_held_value right.old)) }
+            (spec.operand_step_value self (amount_of_held_value held.old) (amount_of_held_value right.entry.value)) }
     {
         let left = held.take(alloc);
-        held.store_value(self.join_held(alloc, left, right.take(alloc)))
+        held.store_value(self.join_held(alloc, left, Box::into_inner(right)))
     }
 
     // Combines the running value with a numeral in place.

@@ -4,16 +4,20 @@ use Rattle.std.proofs.lemmas.Result.{err_from_is_err_and}
 use Rattle.def_entry.specs.Views.{entry_definition_view}
 use Rattle.expr_tree.specs.Syntax as tree
 use Rattle.expr_tree.specs.Trees.{syntax}
+use Rattle.tree_eval.specs.Answers.{amount_of_held_value}
 use Rattle.tree_eval.specs.Expansion.{expand}
+use Rattle.tree_eval.specs.Steps.{operand_step_value}
 use Rattle.tree_eval.specs.declared.direction.Direction.TheVariants.{Forward, Inverse}
 use Rattle.tree_eval.proofs.Alone.{alone_gives, alone_within, member_gives}
 use Rattle.tree_eval.proofs.Arms.{base_lighter, base_stands, chain_ends, chain_gives, chain_lighter, chain_stands}
-use Rattle.tree_eval.proofs.Arms.{exponent_lighter, exponent_stands, group_part, negate_part, power_pair, root_part}
+use Rattle.tree_eval.proofs.Arms.{exponent_lighter, exponent_stands, group_part, negate_part, power_ends, power_gives}
+use Rattle.tree_eval.proofs.Arms.{power_pair, root_part}
 use Rattle.tree_eval.proofs.Chains.{begins, end_place, value_at_end, first_fault, first_lighter, first_stand}
 use Rattle.tree_eval.proofs.Chains.{run_goes_on}
 use Rattle.tree_eval.proofs.Chains.{member_fault, member_lighter, member_stand}
 use Rattle.tree_eval.proofs.MemberChains.{juxtaposed_is, product_is, sum_is}
 use Rattle.tree_eval.proofs.Multiples.{multiple_gives, multiple_place, multiple_usable, multiple_within}
+use Rattle.tree_eval.proofs.StepBinds.{after_evaluated, evaluated_value}
 use Rattle.tree_eval.proofs.Targets.{alias_eval_word_is_callable}
 use Rattle.tree_eval.proofs.Uses.{function_lighter, operand_lighter, operand_stands, use_at_run, use_gives}
 use Rattle.tree_eval.proofs.Uses.{use_has_function}
@@ -68,8 +72,8 @@ scope::Scope::evaluate-returns-in-Inverse-clause-value_or_fault g t c =
     ∙ ap (λ y. tree.Inverse c.in-Inverse.field-0.value (syntax y)) (sym c.deref-in-Inverse.ensures)))
     c.requires (g.E.Env.means c.args.self.now.env.now) _ _ _ c.evaluate_use-in-Inverse.ensures.value_or_fault
 
-pub scope::Scope::evaluate-evaluate-requires : goal.scope::Scope::evaluate-evaluate-requires
-scope::Scope::evaluate-evaluate-requires g t c κs within =
+pub scope::Scope::evaluate-group-requires : goal.scope::Scope::evaluate-group-requires
+scope::Scope::evaluate-group-requires g t c κs within =
     let part = group_part (g.E.Env.means c.args.self.now.env.now)
     (ap syntax c.in-Group.is
     ∙ (c.view_law.ensures.group c.in-Group.operand ∙ ap (λ y. tree.Group (syntax y)) (sym c.deref-in-Group.ensures)))
@@ -116,10 +120,30 @@ scope::Scope::power-evaluate-requires-2 g t c κs within =
     c.in_ok-evaluate.ensures.place in
     (omega (arith, lighter), (within, stand))
 
+pub scope::Scope::power-returns-in-Ok-clause-value_or_fault
+    : goal.scope::Scope::power-returns-in-Ok-clause-value_or_fault
+scope::Scope::power-returns-in-Ok-clause-value_or_fault g t c =
+    power_gives (expand (g.E.Env.means c.args.self.now.env.now) (syntax c.args.base.now))
+    (expand (g.E.Env.means c.args.self.now.env.now) (syntax c.args.exponent.now)) (option_copied c.args.self.now.arg)
+    c.in_ok-evaluate.ensures.value_or_fault _ _
+    (evaluated_value _ _ _ _ c.evaluate-2.ensures.value_or_fault c.in-Ok.is _ _ c.take_power.ensures)
+
+pub scope::Scope::power-returns-in-Ok-clause-place : goal.scope::Scope::power-returns-in-Ok-clause-place
+scope::Scope::power-returns-in-Ok-clause-place g t c =
+    after_evaluated _ _ _ c.in-Ok.is
+    (power_ends _ (syntax c.args.base.now) (syntax c.args.exponent.now) _ _ _ c.in_ok-evaluate.ensures.place
+    c.evaluate-2.ensures.place)
+
 pub scope::Scope::evaluate-evaluate_juxtaposition-requires : goal.scope::Scope::evaluate-evaluate_juxtaposition-requires
 scope::Scope::evaluate-evaluate_juxtaposition-requires g t c κs within =
     let is = juxtaposed_is (g.E.Env.means c.args.self.now.env.now) {e = syntax c.args.tree.now} _
     (ap syntax c.in-Juxtaposed.is ∙ c.view_law.ensures.juxtaposition c.in-Juxtaposed.trees) in
+    (omega (arith, chain_lighter is), (within, chain_stands is _ _ c.requires))
+
+pub scope::Scope::evaluate-chain-requires-in-Juxtaposed-2 : goal.scope::Scope::evaluate-chain-requires-in-Juxtaposed-2
+scope::Scope::evaluate-chain-requires-in-Juxtaposed-2 g t c κs within =
+    let is = juxtaposed_is (g.E.Env.means c.args.self.now.env.now) {e = syntax c.args.tree.now} _
+    (ap syntax c.in-Juxtaposed-2.is ∙ c.view_law.ensures.juxtaposition c.in-Juxtaposed-2.trees) in
     (omega (arith, chain_lighter is), (within, chain_stands is _ _ c.requires))
 
 pub scope::Scope::evaluate-returns-in-Juxtaposed-clause-value_or_fault
@@ -135,6 +159,20 @@ scope::Scope::evaluate-returns-in-Juxtaposed-clause-place g t c =
     let is = juxtaposed_is (g.E.Env.means c.args.self.now.env.now) {e = syntax c.args.tree.now} _
     (ap syntax c.in-Juxtaposed.is ∙ c.view_law.ensures.juxtaposition c.in-Juxtaposed.trees) in
     chain_ends is _ _ _ c.evaluate_juxtaposition.ensures.place
+
+pub scope::Scope::evaluate-returns-in-Juxtaposed-2-clause-value_or_fault
+    : goal.scope::Scope::evaluate-returns-in-Juxtaposed-2-clause-value_or_fault
+scope::Scope::evaluate-returns-in-Juxtaposed-2-clause-value_or_fault g t c =
+    let is = juxtaposed_is (g.E.Env.means c.args.self.now.env.now) {e = syntax c.args.tree.now} _
+    (ap syntax c.in-Juxtaposed-2.is ∙ c.view_law.ensures.juxtaposition c.in-Juxtaposed-2.trees) in
+    chain_gives is _ _ _ c.chain-in-Juxtaposed-2.ensures.value_or_fault
+
+pub scope::Scope::evaluate-returns-in-Juxtaposed-2-clause-place
+    : goal.scope::Scope::evaluate-returns-in-Juxtaposed-2-clause-place
+scope::Scope::evaluate-returns-in-Juxtaposed-2-clause-place g t c =
+    let is = juxtaposed_is (g.E.Env.means c.args.self.now.env.now) {e = syntax c.args.tree.now} _
+    (ap syntax c.in-Juxtaposed-2.is ∙ c.view_law.ensures.juxtaposition c.in-Juxtaposed-2.trees) in
+    chain_ends is _ _ _ c.chain-in-Juxtaposed-2.ensures.place
 
 pub scope::Scope::evaluate-chain-requires : goal.scope::Scope::evaluate-chain-requires
 scope::Scope::evaluate-chain-requires g t c κs within =
@@ -299,6 +337,18 @@ pub scope::Scope::with_member-returns-in-Word-clause-value_or_fault
 scope::Scope::with_member-returns-in-Word-clause-value_or_fault g t c =
     member_gives _ _ (ap syntax c.in-Word.is ∙ c.view_law.ensures.word c.in-Word.field-0) c.requires
     (g.E.Env.means c.args.self.now.env.now) _ _ _ _ _ c.with_word.ensures.value_or_fault
+
+pub scope::Scope::join_member-returns-in-Ok-clause-value_or_fault
+    : goal.scope::Scope::join_member-returns-in-Ok-clause-value_or_fault
+scope::Scope::join_member-returns-in-Ok-clause-value_or_fault g t c =
+    evaluated_value _ _ _
+    (operand_step_value c.args.operand.step (amount_of_held_value c.args.held.now))
+    c.evaluate.ensures.value_or_fault c.in-Ok.is _ _ c.take_member.ensures
+
+pub scope::Scope::join_member-returns-in-Ok-clause-place
+    : goal.scope::Scope::join_member-returns-in-Ok-clause-place
+scope::Scope::join_member-returns-in-Ok-clause-place g t c =
+    after_evaluated _ _ _ c.in-Ok.is c.evaluate.ensures.place
 
 pub function::take-target_of-requires-clause-word : goal.function::take-target_of-requires-clause-word
 function::take-target_of-requires-clause-word g t c =

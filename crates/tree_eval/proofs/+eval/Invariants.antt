@@ -15,6 +15,9 @@ decreases-scope::evaluate_holder g l = 8 * weight (expand (g.E.Env.means l.env.n
 abbrev pub decreases-scope::Scope::evaluate : goal.decreases-scope::Scope::evaluate
 decreases-scope::Scope::evaluate g l = 8 * weight (expand (g.E.Env.means l.self.now.env.now) (syntax l.tree.now)) + 2
 
+abbrev pub decreases-scope::Scope::group : goal.decreases-scope::Scope::group
+decreases-scope::Scope::group g l = 8 * weight (expand (g.E.Env.means l.self.now.env.now) (syntax l.operand.now)) + 3
+
 abbrev pub decreases-scope::Scope::root : goal.decreases-scope::Scope::root
 decreases-scope::Scope::root g l = 8 * weight (expand (g.E.Env.means l.self.now.env.now) (syntax l.operand.now)) + 3
 
@@ -33,8 +36,8 @@ decreases-scope::Scope::evaluate_use g l =
     (slice_get (g.E.Env.words l.self.now.env.now l.self.now.holder) l.place.now)
     (expand (g.E.Env.means l.self.now.env.now) (syntax l.operand.now)) + 1
 
-abbrev pub decreases-scope::put_taken : goal.decreases-scope::put_taken
-decreases-scope::put_taken g l = 8 * weight_callable (g.E.Env.callee l.env.now l.id) + 4
+abbrev pub decreases-function::put_taken : goal.decreases-function::put_taken
+decreases-function::put_taken g l = 8 * weight_callable (g.E.Env.callee l.env.now l.id) + 4
 
 abbrev pub decreases-scope::Scope::evaluate_juxtaposition : goal.decreases-scope::Scope::evaluate_juxtaposition
 decreases-scope::Scope::evaluate_juxtaposition g l =
