@@ -282,12 +282,35 @@ The standard library has no findings.
   $ units_why --lint -f "$LIBRARY"
   $ units_why --lint -f "$LIBRARY" -l en_GB
 
+The word at fault may be directly before the backslash that continues the line.
+
+  $ printf 'm !\nberries tan\\\n(2) m\nbird 2 \\\n nosuch\\\n\n' > ends.units
+  $ units_why --lint -f ends.units
+  ends.units:2:9: berries: refused function: tan in berries
+  ends.units:5:2: bird: unknown unit: nosuch in bird
+  [1]
+
 A file that cannot be read twice has findings without places.
 
   $ printf 'm !\nyd 0.9144 q\n' | units_why --lint -f /dev/stdin
   units-why: a file changed while it was read, so no line has a place
   yd: unknown unit: q in yd
   [1]
+
+`units-lint` reads no more lines than the program, however a file includes itself, and no name ends one of its answers.
+
+  $ printf 'm !\n!include twice.units\n!include twice.units\n' > twice.units
+  $ units-lint twice.units
+  lint_units: twice.units: deck full
+  [2]
+  $ printf 'm !\na\342\200\250b !\nto 2 m\n' > separator.units
+  $ units-lint separator.units
+  separator.units:3: to is an English word that a query may contain
+  [1]
+  $ head -c 16777217 /dev/zero > long.units
+  $ units-lint long.units
+  lint_units: long.units: file too long
+  [2]
 
 Refused arguments and files.
 

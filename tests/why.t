@@ -609,6 +609,94 @@ In JSON, the first object is the reply, and each of the others is a row.
   {"word":"\\\\b","depth":0,"key":"\\\\b","how":"unit","text":"2 caf\xc3\xa9","value":"2 caf\xc3\xa9","file":"odd \\"name\\\\.units","line":2} (esc)
   {"word":"caf\xc3\xa9","depth":1,"key":"caf\xc3\xa9","how":"unit","text":"!","value":"1 caf\xc3\xa9","file":"odd \\"name\\\\.units","line":1} (esc)
 
+A text that is not UTF-8 has a second member with its bytes. Control characters and marks of direction are escaped.
+
+  $ printf 'm !\n\377x 3 m + s\ny 2 \377x\ns !\nz \342\200\256w\n\342\200\256w 4 m\303\n' > bytes.units
+  $ why -f bytes.units --json y
+  {"expression":"y","reply":"sum of unlike units: 3 m and 1 s","refused":true}
+  {"word":"y","depth":0,"key":"y","how":"unit","text":"2 \\ufffdx","text_hex":"3220ff78","fault_below":true,"file":"bytes.units","line":3} (esc)
+  {"word":"\\ufffdx","word_hex":"ff78","depth":1,"key":"\\ufffdx","key_hex":"ff78","how":"unit","text":"3 m + s","fault":"sum of unlike units: 3 m and 1 s","step":{"operator":"+","operands":["3 m","1 s"]},"file":"bytes.units","line":2} (esc)
+  {"word":"m","depth":2,"key":"m","how":"unit","text":"!","value":"1 m","file":"bytes.units","line":1}
+  {"word":"s","depth":2,"key":"s","how":"unit","text":"!","value":"1 s","file":"bytes.units","line":4}
+  [1]
+  $ why -f bytes.units --json z | tail -n 2
+  {"word":"\\u202ew","depth":1,"key":"\\u202ew","how":"unit","text":"4 m\\ufffd","text_hex":"34206dc3","fault_below":true,"file":"bytes.units","line":6} (esc)
+  {"word":"m\\ufffd","word_hex":"6dc3","depth":2,"fault":"unknown unit"} (esc)
+  $ printf 's !\n\377 !\nt 3 \377 + s\n' > operands.units
+  $ why -f operands.units --json t | head -n 2 | tail -n 1
+  {"word":"t","depth":0,"key":"t","how":"unit","text":"3 \\ufffd + s","text_hex":"3320ff202b2073","fault":"sum of unlike units: 3 \\ufffd and 1 s","fault_hex":"73756d206f6620756e6c696b6520756e6974733a203320ff20616e6420312073","step":{"operator":"+","operands":["3 \\ufffd","1 s"],"operands_hex":["3320ff","312073"]},"file":"operands.units","line":3} (esc)
+
+A step is that of the side whose fault the reply states: of the unit only if the expression has a value.
+
+  $ printf 'm !\ns !\nkg !\n' > sides.units
+  $ why -f sides.units nosuch 1/0
+  unknown unit: nosuch
+  nosuch: unknown unit
+  [1]
+  $ why -f sides.units 'm (s' 'm + s'
+  syntax error at 4
+  m: unit, ! = 1 m [sides.units:1]
+  s: unit, ! = 1 s [sides.units:2]
+  [1]
+  $ why -f sides.units 'm + s' 'm + kg' | head -n 2
+  sum of unlike units: 1 m and 1 s
+  in (1 m) + (1 s)
+  $ why -f sides.units m 'm + kg' | head -n 2
+  sum of unlike units: 1 m and 1 kg
+  in (1 m) + (1 kg)
+  $ why -f sides.units --json 'm + s' 'm + kg' | head -n 1
+  {"expression":"m + s","unit":"m + kg","reply":"sum of unlike units: 1 m and 1 s","refused":true,"step":{"operator":"+","operands":["1 m","1 s"]}}
+  $ why -f sides.units --json m 'm + kg' | head -n 1
+  {"expression":"m","unit":"m + kg","reply":"sum of unlike units: 1 m and 1 kg","refused":true,"step":{"operator":"+","operands":["1 m","1 kg"]}}
+
+A fault is below only if the evaluation meets it before a step of the definition itself.
+
+  $ printf 'm !\nbad 1e30 m\nfar 1e30 bad bad\nbefore (1/0) far\nafter far (1/0)\n' > order.units
+  $ why -f order.units before
+  division by zero
+  before: unit, (1/0) far ! division by zero in 1 / 0 [order.units:4]
+    far: unit, 1e30 bad bad ! overflow in 1e+30 * (1e+30 m) [order.units:3]
+      bad: unit, 1e30 m = 1e+30 m [order.units:2]
+        m: unit, ! = 1 m [order.units:1]
+      bad: unit, see above
+  [1]
+  $ why -f order.units after | head -n 3
+  overflow
+  after: unit, far (1/0) ! see below [order.units:5]
+    far: unit, 1e30 bad bad ! overflow in 1e+30 * (1e+30 m) [order.units:3]
+  $ why -f order.units '(1/0) far' | head -n 2
+  division by zero
+  in 1 / 0
+
+Files that are read in place of others. Names are compared without `.`, `//` and `DIR/..`; the last `=` ends a name.
+
+  $ mkdir sub
+  $ printf 'm !\n!include sub/../own.units\n!include sub//./part.units\n' > whole.units
+  $ printf 'x 2 m\n' > own.units
+  $ printf 'x 3 m\n' > unsaved
+  $ printf 'part 4 x\n!include ../a=b.units\n' > other
+  $ why -f whole.units --overlay ./own.units=unsaved --overlay=sub/part.units=other --overlay a=b.units=unsaved part
+  \tDefinition: 4 x = 12 m (esc)
+  part: unit, 4 x = 12 m [sub//./part.units:1]
+    x: unit, 3 m = 3 m [sub//./../a=b.units:1; replaces sub/../own.units:1]
+      m: unit, ! = 1 m [whole.units:1]
+  $ why -f whole.units x
+  \tDefinition: 2 m = 2 m (esc)
+  x: unit, 2 m = 2 m [sub/../own.units:1]
+    m: unit, ! = 1 m [whole.units:1]
+  $ units_why -f ./sub/../whole.units --overlay "$PWD/own.units=unsaved" --overlay whole.units=absent m
+  units-why: no file: ./sub/../whole.units
+  [3]
+  $ printf 'm !\ny 2 nosuch\n' > unsaved
+  $ units_why --lint -f whole.units --overlay whole.units=unsaved
+  whole.units:2:5: y: unknown unit: nosuch in y
+  [1]
+  $ for overlay in a =a a= = ''; do units_why --lint --overlay "$overlay"; done 2>&1 | uniq -c | sed 's/^ *//'
+  5 units-why: usage: units-why [options] EXPRESSION [UNIT], or units-why --lint [options]
+  $ units_why --lint --overlay own.units=a --overlay sub/../own.units=b
+  units-why: usage: units-why [options] EXPRESSION [UNIT], or units-why --lint [options]
+  [2]
+
 A row that is more than 20 deep begins with its depth.
 
   $ awk 'BEGIN { print "a !"; w = "a"; for (i = 0; i < 25; i++) { print w "a " w; w = w "a" } }' > deep.units

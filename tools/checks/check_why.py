@@ -11,7 +11,10 @@ with the files as Python reads them:
   fault; a definition that calls a function is skipped;
 - the lines that it replaces are the other active definitions of its key.
 
-All of that is skipped if there is no program. The last line is `N passed, M failed, K skipped`.
+Each object has to fit the schema share/units-why.schema.json, also for faults, findings and calls of functions.
+
+All of that is skipped if there is no program. On a terminal, units-why and units-lint escape what a terminal would obey,
+and to a pipe they write it as it is. The last line is `N passed, M failed, K skipped`.
 """
 
 from __future__ import annotations
@@ -21,20 +24,34 @@ import json
 import os
 import subprocess
 import sys
+import tempfile
 from collections import defaultdict
 from dataclasses import dataclass, field
 from pathlib import Path
 
-sys.path[:0] = [str(Path(__file__).resolve().parents[1] / name) for name in (".", "lint", "models")]
+sys.path[:0] = [str(Path(__file__).resolve().parents[1] / name) for name in (".", "checks", "lint", "models")]
 from built import find_program  # noqa: E402
 from plain_quantities import Fault, Quantity  # noqa: E402
 from plain_tables import Reader  # noqa: E402
+from terminal import Terminal  # noqa: E402
 from unit_files import Kind, read_deck  # noqa: E402
 
 ROOT = Path(__file__).resolve().parents[2]
 LIBRARY = ROOT / "share/units/standard.units"
+SCHEMA = json.loads((ROOT / "share/units-why.schema.json").read_text())
+TYPES = {"object": dict, "array": list, "string": str, "integer": int, "boolean": bool}
+# Questions whose objects have the members that plain definitions lack, over these lines.
+FAULTY_LINES = b"m !\nkg !\nfar 2 near\nnear 3 m + kg\nnear 3 m - kg\nm- 1\nmm 2 m\n"
+FAULTY_LINES += b"b\xff 2 m + kg\nodd 2 b\xff\nloop loop\nbad\n"
+FAULTY_QUESTIONS = [["far + 2 quux"], ["m + kg", "m"], ["loop"], ["odd"], ["--lint", "--captures", "--unused"]]
+CALLS = [["~tempF(300 K)"], ["tempF(-500)"], ["awg(12)", "mm"], ["~zincgauge(0.5 mm)"]]
 LOCALES = ("en_US", "en_GB")
 NAMES_A_RUN = 150
+# Names with a mark of direction, a control character of two bytes, a byte that is not UTF-8 and a letter, in a file
+# with a control character in its name, and how a terminal gets them.
+ODD_NAMES = "ab\u202ecd ef\u009bgh ij\udcffkl höhe".split(" ")
+SHOWN_NAMES = r"ab\xe2\x80\xaecd ef\xc2\x9bgh ij\xffkl höhe".split(" ")
+ODD_FILE, SHOWN_FILE = "odd\x1b[31m.units", r"odd\x1b[31m.units"
 
 
 @dataclass
@@ -122,6 +139,40 @@ class Words:
         return value
 
 
+def fits(value: object, schema: dict) -> bool:
+    """Whether a value fits a schema, as far as the schema of units-why uses the language of schemas."""
+    if "$ref" in schema:
+        return fits(value, SCHEMA["$defs"][schema["$ref"].rpartition("/")[2]])
+    if "oneOf" in schema:
+        return sum(fits(value, each) for each in schema["oneOf"]) == 1
+    if "type" not in schema:
+        return value in schema.get("enum", [schema.get("const", value)])
+    if type(value) is not TYPES[schema["type"]]:
+        return False
+    if isinstance(value, list):
+        return all(fits(each, schema["items"]) for each in value)
+    if not isinstance(value, dict):
+        return True
+    members = {name: schema["properties"].get(name.removesuffix("_hex")) for name in value}
+    if None in members.values() or not value.keys() >= set(schema["required"]):
+        return False
+    return all(name.endswith("_hex") or fits(value[name], part) for name, part in members.items())
+
+
+def check_schema(program: str, library: Path, results: Results) -> None:
+    """Compares the objects for faults, findings and calls with the schema, and tries whether it refuses others."""
+    with tempfile.TemporaryDirectory() as folder:
+        faulty = Path(folder) / "faulty.units"
+        faulty.write_bytes(FAULTY_LINES)
+        asked = [run(program, faulty, "en_US", *words) for words in FAULTY_QUESTIONS]
+    asked += [run(program, library, "en_US", "--", *words) for words in CALLS]
+    results.check(all(asked), "a question has no object")
+    for item in (item for items in asked for item in items):
+        results.check(fits(item, SCHEMA), f"the schema does not fit {item}")
+        renamed = {f"{name}_": value for name, value in item.items()}
+        results.check(not fits(item | renamed, SCHEMA), f"the schema also fits {item | renamed}")
+
+
 def run(program: str, library: Path, locale: str, *words: str) -> list[dict]:
     """The JSON objects that units-why writes."""
     command = [program, "--json", "-f", str(library), "-l", locale, *words]
@@ -178,10 +229,32 @@ def check_locale(program: str, library: Path, locale: str, results: Results) -> 
     keys = set()
     for start in range(0, len(words), NAMES_A_RUN):
         expression = " ".join(words[start : start + NAMES_A_RUN])
-        _, *rows = run(program, library, locale, "--exact", "--", expression)
+        first, *rows = run(program, library, locale, "--exact", "--", expression)
+        wrong = [item for item in [first, *rows] if not fits(item, SCHEMA)]
+        results.check(not wrong, f"the schema does not fit {wrong[:3]}")
         keys |= check_rows(rows, places, results)
     for key in {f"{name}" for name in names} | {f"{prefix}-" for prefix in prefixes}:
         results.check(key in keys, f"{key} has no row")
+
+
+def check_terminal(command: list[str], results: Results) -> None:
+    """Compares what a program that reports each name of a file writes to a terminal and to a pipe."""
+    with tempfile.TemporaryDirectory() as folder:
+        lines = "".join(f"{name} 2 missing\n{name} 3 missing\n" for name in ODD_NAMES)
+        (Path(folder) / ODD_FILE).write_text(lines, encoding="utf-8", errors="surrogateescape")
+        terminal = Terminal([*command, ODD_FILE], dict(os.environ), Path(folder))
+        status = terminal.status()
+        pipe = subprocess.run(
+            [*command, ODD_FILE], cwd=folder, stdin=subprocess.DEVNULL, stdout=subprocess.PIPE, check=False
+        )
+        shown = terminal.output.decode(errors="surrogateescape")
+        raw = pipe.stdout.decode(errors="surrogateescape")
+        for text, texts in ((shown, (SHOWN_FILE, *SHOWN_NAMES)), (raw, (ODD_FILE, *ODD_NAMES))):
+            absent = [each for each in texts if each not in text]
+            results.check(not absent, f"{command[0]} does not write {absent}, but {text!r}")
+        obeyed = {char for char in shown if not char.isprintable()} - set("\t\r\n")
+        results.check(not obeyed, f"{command[0]} writes {obeyed} to a terminal")
+        results.check(status == pipe.returncode == 1, f"{command[0]} ends with {status} and {pipe.returncode}")
 
 
 def main() -> int:
@@ -189,16 +262,23 @@ def main() -> int:
     parser.add_argument("--program", help="the program units-why; otherwise the one that is built")
     parser.add_argument("--library", type=Path, default=LIBRARY)
     arguments = parser.parse_args()
-    program = arguments.program or find_program("units_why")
-    if not program:
-        print("check_why: units-why is not built, so the trees are skipped")
-        print("0 passed, 0 failed, 1 skipped")
-        return 0
+    program, units = arguments.program or find_program("units_why"), find_program("units")
     results = Results()
-    for locale in LOCALES:
-        check_locale(program, arguments.library, locale, results)
+    if units:
+        check_terminal([str(ROOT / "bin/units-lint"), "--program", units], results)
+    else:
+        print("skipped: units is not built, which units-lint asks")
+        results.skipped += 1
+    if program:
+        check_terminal([str(Path(program).resolve()), "--lint", "-f"], results)
+        check_schema(program, arguments.library, results)
+        for locale in LOCALES:
+            check_locale(program, arguments.library, locale, results)
+    else:
+        print("skipped: units-why is not built, so the trees are not checked")
+        results.skipped += 1
     print(f"{results.passed} passed, {results.failed} failed, {results.skipped} skipped")
-    return 1 if results.failed or not results.passed else 0
+    return 1 if results.failed or program and not results.passed else 0
 
 
 if __name__ == "__main__":

@@ -2,7 +2,7 @@
 use Rattle.std.specs.Prelude.{◌∷◌, ℕ, List, [], Option, Some, None, codes, true, pos}
 use Rattle.clap.specs.Words.{App, Rule, Text, new_rule, with_rule}
 use Rattle.clap.specs.Simple.{new_shape}
-use Rattle.clap.specs.declared.builder.action.ArgAction.TheVariants.{Set, SetTrue}
+use Rattle.clap.specs.declared.builder.action.ArgAction.TheVariants.{Append, Set, SetTrue}
 use Rattle.clap.specs.declared.builder.value_parser.ValueParser.{ValueParser}
 use Rattle.clap.specs.declared.builder.value_parser.ValueParser.TheVariants as vp
 
@@ -19,6 +19,11 @@ option_rule name short parser = record (new_rule name) {
   action = Some Set;
   parser = parser;
 }
+
+-- an option that may be given several times, given its name and its letter
+abbrev pub repeated_option_rule : Text → Option ℕ → Rule
+repeated_option_rule name short =
+    record (new_rule name) { long = Some name; short = short; action = Some Append }
 
 -- an operand, which is a word without an option
 abbrev pub operand_rule : Text → Rule

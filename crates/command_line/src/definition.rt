@@ -17,6 +17,8 @@ pub(crate) enum Form {
     Flag,
     /// An option whose value is any text.
     Text,
+    /// An option that may be given several times, each time with any text as its value.
+    Texts,
     /// An option whose value is a number from 1 to this one.
     Number(u16),
     /// A word without an option.
@@ -87,6 +89,7 @@ fn argument<'a>(alloc: Global, name: &'a str, letter: Option<char>, form: Form) 
     match form {
         Form::Flag => argument.long(name).action(ArgAction::SetTrue),
         Form::Text => argument.long(name).action(ArgAction::Set),
+        Form::Texts => argument.long(name).action(ArgAction::Append),
         Form::Number(high) => argument
             .long(name)
             .action(ArgAction::Set)

@@ -7,6 +7,7 @@ use std::alloc::{AllocError, Global};
 /// The names, letters and forms of the arguments.
 const WHY_ARGUMENTS: &[(&str, Option<char>, Form)] = &[
     ("file", Some('f'), Form::Text),
+    ("overlay", None, Form::Texts),
     ("locale", Some('l'), Form::Text),
     ("digits", Some('d'), Form::Text),
     ("exact", None, Form::Flag),

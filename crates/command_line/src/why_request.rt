@@ -7,6 +7,8 @@ use units_io::Text;
 pub struct WhyRequest {
     /// The definition file, or `None` for the built-in definitions.
     pub file: Option<Text>,
+    /// The files that are read in place of others, in order.
+    pub overlays: Vec<Overlay>,
     /// The locale, if one is given.
     pub locale: Option<Text>,
     /// The number of significant digits, from 1 to 36, if one is given.
@@ -17,6 +19,15 @@ pub struct WhyRequest {
     pub json: bool,
     /// The query of a request.
     pub inquiry: Inquiry,
+}
+
+/// A file that is read in place of another one.
+#[derive(Drop)]
+pub struct Overlay {
+    /// The name of the file that is not read.
+    pub name: Text,
+    /// The path of the file that is read.
+    pub path: Text,
 }
 
 /// The query of a request.

@@ -8,7 +8,7 @@ use crate::fault::WordsFault;
 use crate::fields::{flag_of, text_of};
 use crate::parse::{fault_from, texts_of};
 use crate::why_command::why_command;
-use crate::why_request::{Findings, Inquiry, WhyRequest};
+use crate::why_request::{Findings, Inquiry, Overlay, WhyRequest};
 use clap::ArgMatches;
 use std::alloc::Global;
 use units_io::Text;
@@ -21,8 +21,8 @@ pub fn why_usage_text() -> &'static [u8]
 }
 
 /// Parses the words after the name of the program. The error is `Usage` if clap rejects them, a word is not UTF-8, the
-/// digits are not a number from 1 to 36, both digits and `--exact` are given, not exactly one of an expression and
-/// `--lint` is given, or `--captures` or `--unused` is given without `--lint`.
+/// digits are not a number from 1 to 36, both digits and `--exact` are given, an overlay is not NAME=PATH, not exactly one
+/// of an expression and `--lint` is given, or `--captures` or `--unused` is given without `--lint`.
 pub fn read_why_words(alloc: Global, words: &[Text]) -> Result<WhyRequest, WordsFault>
     ensures { IfOk result HasWhyDigits }
 {
@@ -44,17 +44,41 @@ fn request_of(alloc: Global, matches: &ArgMatches<'_>) -> Result<WhyRequest, Wor
     ensures { IfOk result HasWhyDigits }
 {
     let file = text_of(alloc, matches, "file")?;
+    let overlays = overlays_of(alloc, matches)?;
     let locale = text_of(alloc, matches, "locale")?;
     let inquiry = inquiry_of(alloc, matches)?;
     let digits = read_why_digits(matches)?;
     Ok(WhyRequest {
         file,
+        overlays,
         locale,
         digits,
         exact: flag_of(matches, "exact"),
         json: flag_of(matches, "json"),
         inquiry,
     })
+}
+
+// Returns the overlays in their order.
+fn overlays_of(alloc: Global, matches: &ArgMatches<'_>) -> Result<Vec<Overlay>, WordsFault> {
+    let mut overlays = Vec::new(alloc);
+    if let Some(values) = matches.get_strs("overlay") {
+        for value in values {
+            overlays.push(overlay_of(alloc, *value)?)?;
+        }
+    }
+    Ok(overlays)
+}
+
+// Returns the overlay NAME=PATH. The last `=` separates the two, so that any name can be written.
+fn overlay_of(alloc: Global, value: &str) -> Result<Overlay, WordsFault> {
+    match value.rsplit_once('=') {
+        Some((name, path)) if !name.is_empty() && !path.is_empty() => Ok(Overlay {
+            name: Text::from_bytes(alloc, name.as_bytes())?,
+            path: Text::from_bytes(alloc, path.as_bytes())?,
+        }),
+        _ => Err(WordsFault::Usage),
+    }
 }
 
 // Returns the query: either for an expression or for all definitions.

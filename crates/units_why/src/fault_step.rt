@@ -2,7 +2,8 @@
 
 ghost use Rattle.reply.specs.Options.{AreReplyOptionsPrintable};
 
-use crate::json::{put_name, put_string};
+use crate::hidden::is_utf8;
+use crate::json::{Encoding, put_first_member, put_name, put_string};
 use crate::values::value_text;
 use crate::writer::Writer;
 use expr_tree::RootKind;
@@ -86,16 +87,33 @@ impl FaultStep {
     /// Appends a comma and the member `step`.
     pub(crate) fn put_member(&self, out: &mut Writer) {
         put_name(out, b"step");
-        out.put(b"{\"operator\":");
-        put_string(out, self.operator.as_bytes());
+        put_first_member(out, b"operator", self.operator.as_bytes());
         put_name(out, b"operands");
+        self.put_operands(out, Encoding::Characters);
+        if !self.are_operands_utf8() {
+            put_name(out, b"operands_hex");
+            self.put_operands(out, Encoding::Bytes);
+        }
+        out.put_byte(b'}');
+    }
+
+    // Appends the list of the operands.
+    fn put_operands(&self, out: &mut Writer, encoding: Encoding) {
         out.put_byte(b'[');
-        put_string(out, self.left.as_bytes());
+        put_string(out, encoding, self.left.as_bytes());
         if let Some(right) = &self.right {
             out.put_byte(b',');
-            put_string(out, right.as_bytes());
+            put_string(out, encoding, right.as_bytes());
         }
-        out.put(b"]}");
+        out.put_byte(b']');
+    }
+
+    fn are_operands_utf8(&self) -> bool {
+        let is_right_utf8 = match &self.right {
+            Some(right) => is_utf8(right.as_bytes()),
+            None => true,
+        };
+        is_right_utf8 && is_utf8(self.left.as_bytes())
     }
 }
 

@@ -1,7 +1,7 @@
 //! Findings in definitions, and their output formats.
 
 use crate::decimal::{put_number, put_number_between};
-use crate::json::{put_number_member, put_string, put_text_member};
+use crate::json::{put_first_member, put_number_member, put_text_member};
 use crate::mark::Mark;
 use crate::writer::Writer;
 use std::alloc::AllocError;
@@ -112,8 +112,7 @@ fn put_spot(out: &mut Writer, spot: Spot<'_>) {
 
 /// Appends a finding as a JSON object on a line of its own.
 pub(crate) fn put_finding_json(out: &mut Writer, view: FindingView<'_>) {
-    out.put(b"{\"severity\":");
-    put_string(out, view.finding.severity.word());
+    put_first_member(out, b"severity", view.finding.severity.word());
     if let Some(spot) = view.spot {
         put_spot_members(out, spot);
     }

@@ -1,60 +1,84 @@
 //! JSON output.
 
 use crate::decimal::put_number;
+use crate::hidden::{cut_character, hidden_code, is_utf8, put_code, put_hex};
 use crate::writer::Writer;
-use std::str;
 
-/// Appends a string. If the text is not UTF-8, each byte outside of ASCII becomes U+FFFD.
-pub(crate) fn put_string(out: &mut Writer, text: &[u8]) {
+/// How a string shows a text.
+#[derive(Clone, Copy)]
+pub(crate) enum Encoding {
+    /// By its characters. Control characters and marks of direction are escaped, and each byte that is not UTF-8 becomes
+    /// U+FFFD.
+    Characters,
+    /// By its bytes, each as two hexadecimal digits.
+    Bytes,
+}
+
+/// Appends a string that shows a text.
+pub(crate) fn put_string(out: &mut Writer, encoding: Encoding, text: &[u8]) {
     out.put_byte(b'"');
-    let is_utf8 = is_text(text);
-    for byte in text {
-        put_char_byte(out, *byte, is_utf8);
+    match encoding {
+        Encoding::Characters => put_characters(out, text),
+        Encoding::Bytes => put_bytes(out, text),
     }
     out.put_byte(b'"');
 }
 
-fn is_text(text: &[u8]) -> bool {
-    match str::from_utf8(text) {
-        Ok(_) => true,
-        Err(_) => false,
-    }
-}
-
-// Appends a byte of a string.
-fn put_char_byte(out: &mut Writer, byte: u8, is_utf8: bool) {
-    if byte < b' ' {
-        put_control(out, byte);
-    } else if !byte.is_ascii() && !is_utf8 {
-        out.put(b"\\ufffd");
-    } else {
-        if byte == b'"' || byte == b'\\' {
-            out.put_byte(b'\\');
+fn put_characters(out: &mut Writer, text: &[u8]) {
+    let mut rest = text;
+    for _ in 0..text.len() {
+        if rest.is_empty() {
+            break;
         }
-        out.put_byte(byte);
+        let (character, after) = cut_character(rest);
+        put_character(out, character);
+        rest = after;
     }
 }
 
-// Appends a control character.
-fn put_control(out: &mut Writer, byte: u8) {
-    out.put(b"\\u00");
-    out.put_byte(hex_digit(byte / 16));
-    out.put_byte(hex_digit(byte % 16));
+fn put_character(out: &mut Writer, character: &[u8]) {
+    if let Some(code) = hidden_code(character) {
+        return put_code(out, code);
+    }
+    match character {
+        [b'"' | b'\\'] => {
+            out.put_byte(b'\\');
+            out.put(character);
+        }
+        [byte] if !byte.is_ascii() => out.put(b"\\ufffd"),
+        _ => out.put(character),
+    }
 }
 
-// Returns the hexadecimal digit of a number below 16.
-fn hex_digit(n: u8) -> u8 {
-    match n {
-        0..=9 => b'0' + n,
-        10..=15 => b'a' + (n - 10),
-        _ => b'0',
-    }
+/// Appends the opening brace of an object and its first member, whose value is a string.
+pub(crate) fn put_first_member(out: &mut Writer, name: &[u8], text: &[u8]) {
+    out.put(b"{\"");
+    put_string_member(out, name, text);
 }
 
 /// Appends a comma and a member whose value is a string.
 pub(crate) fn put_text_member(out: &mut Writer, name: &[u8], text: &[u8]) {
-    put_name(out, name);
-    put_string(out, text);
+    out.put(b",\"");
+    put_string_member(out, name, text);
+}
+
+fn put_bytes(out: &mut Writer, text: &[u8]) {
+    for byte in text {
+        put_hex(out, *byte);
+    }
+}
+
+// Appends a member after its first quote. If its text is not UTF-8, a second member has the bytes.
+fn put_string_member(out: &mut Writer, name: &[u8], text: &[u8]) {
+    out.put(name);
+    out.put(b"\":");
+    put_string(out, Encoding::Characters, text);
+    if !is_utf8(text) {
+        out.put(b",\"");
+        out.put(name);
+        out.put(b"_hex\":");
+        put_string(out, Encoding::Bytes, text);
+    }
 }
 
 /// Appends a comma and a member whose value is a number.

@@ -12,6 +12,7 @@ mod entries;
 mod evaluator;
 mod fault_step;
 mod finding;
+mod hidden;
 mod interval;
 mod json;
 mod key_copy;
@@ -24,8 +25,10 @@ mod open_calls;
 mod open_file;
 mod outcome;
 mod output;
+mod overlaid_files;
 mod path;
 mod places;
+mod plain_name;
 mod ports;
 mod reading;
 mod report;
@@ -54,9 +57,12 @@ mod writer;
 
 ghost use Rattle.std.specs.Prelude.{◌≡◌, ◌<◌};
 
+use output::Output;
+use overlaid_files::OverlaidFiles;
 use ports::Ports;
 use run::run;
 use status::Status;
+use std::io::IsTerminal;
 use std::marker::Brand;
 use std::process::ExitCode;
 use std::sync::ledger::{Blank, Ledger};
@@ -70,9 +76,15 @@ fn run_on<L: Ledger>(rt: HostRuntime, words: &Texts, vars: &Vars, blank: Blank) 
 {
     let steps: Steps<L> = Steps::new(blank);
     let mut ports = Ports {
-        out: StdSink::new(rt.stdout()),
-        err: StdSink::new(rt.stderr()),
-        files: DirFiles::new(rt),
+        out: Output {
+            is_terminal: rt.stdout().is_terminal(),
+            sink: StdSink::new(rt.stdout()),
+        },
+        err: Output {
+            is_terminal: rt.stderr().is_terminal(),
+            sink: StdSink::new(rt.stderr()),
+        },
+        files: OverlaidFiles::new(rt.alloc(), DirFiles::new(rt)),
     };
     run(rt.alloc(), words.as_slice(), vars, &mut ports, steps)
 }

@@ -83,7 +83,8 @@ pub(crate) fn cached_value<'a>(
     }
 }
 
-/// Returns the outcome of the key of a row at this depth, which the walk gave last.
+/// Returns the outcome of the key of a row at this depth, which the walk gave last. The fault is below only if the
+/// evaluation meets it before a step of the definition itself that has no value.
 pub(crate) fn outcome_of<L: Ledger>(
     evaluator: &mut Evaluator<L>,
     options: &Options,
@@ -97,10 +98,11 @@ pub(crate) fn outcome_of<L: Ledger>(
         Queried::Known(outcome) => return Ok(outcome),
         Queried::Fault(fault) => fault,
     };
-    if is_fault_below(evaluator, depth, walk)? {
+    let step = step_of_key(evaluator, key)?;
+    if step.is_none() && is_fault_below(evaluator, depth, walk)? {
         return Ok(Outcome::FaultBelow);
     }
-    own_fault(evaluator, options, key, fault)
+    own_fault(evaluator.alloc, options, fault, step)
 }
 
 // The answer of a query for a key.
@@ -136,18 +138,17 @@ fn ask_key<L: Ledger>(evaluator: &mut Evaluator<L>, key: &Key) -> Result<Queried
     }
 }
 
-// Returns the fault of the definition of a key itself.
-fn own_fault<L: Ledger>(
-    evaluator: &mut Evaluator<L>,
+// Returns the fault of the definition of a key itself, with the step that has it.
+fn own_fault(
+    alloc: Global,
     options: &Options,
-    key: &Key,
     fault: ValueFault,
+    step: Option<FailedStep>,
 ) -> Result<Outcome, AllocError>
     requires { AreReplyOptionsPrintable options.now }
 {
-    let alloc = evaluator.alloc;
     let text = fault_text(alloc, &ReplyFault::Value(fault), options)?;
-    let step = FaultStep::of_if(alloc, options, step_of_key(evaluator, key)?)?;
+    let step = FaultStep::of_if(alloc, options, step)?;
     let own = OwnFault { text, step };
     Ok(Outcome::Fault(Box::new(alloc, own)?))
 }
@@ -169,8 +170,8 @@ fn is_fault_below<L: Ledger>(
     Ok(false)
 }
 
-/// Returns whether a word is unknown or refused, or its key has a fault.
-pub(crate) fn has_fault<L: Ledger>(
+// Returns whether a word is unknown or refused, or its key has a fault.
+fn has_fault<L: Ledger>(
     evaluator: &mut Evaluator<L>,
     mention: &StoredMention,
 ) -> Result<bool, AllocError> {

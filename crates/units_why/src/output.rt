@@ -1,8 +1,10 @@
 //! Output in blocks.
 
+use crate::hidden::{cut_character, hidden_code, put_hex};
 use crate::status::Status;
-use std::alloc::AllocError;
-use units_io::{Failed, Sink, put_all};
+use crate::writer::Writer;
+use std::alloc::{AllocError, Global};
+use units_io::{Failed, Sink, Text, put_all};
 
 // The least count of bytes of a block.
 const BLOCK: usize = 65536;
@@ -38,11 +40,70 @@ impl From<Failed> for OutputFault {
     }
 }
 
-/// Writes a text and clears it, if it is at least a block. So the memory for an answer does not grow with its length.
-pub(crate) fn put_block<O: Sink>(sink: &mut O, text: &mut Vec<u8>) -> Result<(), OutputFault> {
-    if text.len() >= BLOCK {
-        put_all(sink, text.as_slice())?;
-        text.clear();
+/// An output, and whether it is a terminal. A terminal obeys the control characters and the marks of direction in names
+/// and paths, so it gets them escaped.
+#[derive(Drop)]
+pub(crate) struct Output<O: Sink> {
+    pub(crate) sink: O,
+    pub(crate) is_terminal: bool,
+}
+
+impl<O: Sink> Output<O> {
+    /// Writes whole lines.
+    pub(crate) fn put(&mut self, alloc: Global, lines: &[u8]) -> Result<(), OutputFault> {
+        if self.is_terminal {
+            let shown = shown_text(alloc, lines)?;
+            return Ok(put_all(&mut self.sink, shown.as_bytes())?);
+        }
+        Ok(put_all(&mut self.sink, lines)?)
     }
-    Ok(())
+
+    /// Writes whole lines and clears them, if they are at least a block. So the memory for an answer does not grow with
+    /// its length.
+    pub(crate) fn put_block(
+        &mut self,
+        alloc: Global,
+        lines: &mut Vec<u8>,
+    ) -> Result<(), OutputFault> {
+        if lines.len() >= BLOCK {
+            self.put(alloc, lines.as_slice())?;
+            lines.clear();
+        }
+        Ok(())
+    }
+}
+
+// Returns lines in which each control character but the tab, each mark of direction and each byte that is not UTF-8 is
+// escaped.
+fn shown_text(alloc: Global, lines: &[u8]) -> Result<Text, AllocError> {
+    let mut out = Writer::new(alloc);
+    let mut rest = lines;
+    for _ in 0..lines.len() {
+        if rest.is_empty() {
+            break;
+        }
+        let (character, after) = cut_character(rest);
+        put_shown(&mut out, character);
+        rest = after;
+    }
+    out.into_text()
+}
+
+// Appends a character, or its bytes if it is hidden.
+fn put_shown(out: &mut Writer, character: &[u8]) {
+    if is_shown(character) {
+        return out.put(character);
+    }
+    for byte in character {
+        out.put(b"\\x");
+        put_hex(out, *byte);
+    }
+}
+
+fn is_shown(character: &[u8]) -> bool {
+    match character {
+        [b'\t' | b'\n'] => true,
+        [byte] if !byte.is_ascii() => false,
+        _ => hidden_code(character).is_none(),
+    }
 }

@@ -5,7 +5,9 @@ ghost use Rattle.reply.specs.Options.{AreReplyOptionsPrintable};
 use crate::call_trace::{Branch, CallTrace};
 use crate::decimal::put_number;
 use crate::interval::{End, EndTest};
-use crate::json::{put_flag_member, put_name, put_number_member, put_string, put_text_member};
+use crate::json::{
+    put_first_member, put_flag_member, put_name, put_number_member, put_text_member,
+};
 use crate::outcome::{LentOutcome, OwnFault};
 use crate::places::{Places, put_place_members};
 use crate::row_note::Standing;
@@ -30,8 +32,7 @@ pub(crate) fn put_row_json(
     requires { AreReplyOptionsPrintable style.options.now }
 {
     let mention = view.mention;
-    out.put(b"{\"word\":");
-    put_string(out, mention.word(places.deck));
+    put_first_member(out, b"word", mention.word(places.deck));
     put_number_member(out, b"depth", mention.depth());
     put_key_members(out, view);
     match view.note.standing {
@@ -128,8 +129,7 @@ fn put_test(out: &mut Writer, test: &EndTest) {
         End::Range => b"range".as_slice(),
     };
     put_name(out, name);
-    out.put(b"{\"interval\":");
-    put_string(out, test.interval.as_bytes());
+    put_first_member(out, b"interval", test.interval.as_bytes());
     put_text_member(out, b"number", test.number.as_bytes());
     put_flag_member(out, b"inside", test.is_inside);
     out.put_byte(b'}');
@@ -146,8 +146,7 @@ fn put_segment(out: &mut Writer, segment: &Segment) {
 }
 
 fn put_point(out: &mut Writer, point: &Point) {
-    out.put(b"{\"x\":");
-    put_string(out, point.x.as_bytes());
+    put_first_member(out, b"x", point.x.as_bytes());
     put_text_member(out, b"y", point.y.as_bytes());
     out.put_byte(b'}');
 }

@@ -1,11 +1,13 @@
 //! The run of the program.
 
+ghost use Rattle.std.specs.Prelude.{IfOk};
 ghost use Rattle.command_line.specs.WhyDigits.{HasWhyDigits};
 ghost use Rattle.reply.specs.Options.{AreReplyOptionsPrintable};
 
 use crate::definitions::{Definitions, load};
 use crate::lint::lint;
-use crate::output::OutputFault;
+use crate::output::{Output, OutputFault};
+use crate::overlaid_files::OverlaidFiles;
 use crate::ports::Ports;
 use crate::status::Status;
 use crate::stop::Stop;
@@ -17,7 +19,7 @@ use reply::Options;
 use std::alloc::Global;
 use std::mem;
 use std::sync::ledger::Ledger;
-use units_io::{Files, Sink, Steps, Text, Vars, put_all};
+use units_io::{Files, Sink, Steps, Text, Vars};
 
 /// Answers the request on the command line over these files, and returns the status of the run. `words` are the words
 /// after the name of the program.
@@ -28,19 +30,27 @@ pub(crate) fn run<O: Sink, E: Sink, F: Files, L: Ledger>(
     ports: &mut Ports<O, E, F>,
     steps: Steps<L>,
 ) -> Status {
-    match read_why_words(alloc, words) {
+    match read_request(alloc, words, &mut ports.files) {
         Ok(request) => run_request(alloc, &request, vars, ports, steps),
-        Err(WordsFault::Usage) => complain(&mut ports.err, why_usage_text(), Status::Usage),
+        Err(WordsFault::Usage) => match ports.err.put(alloc, why_usage_text()) {
+            Ok(()) => Status::Usage,
+            Err(fault) => fault.status(),
+        },
         Err(WordsFault::OutOfMemory) => Status::NoMemory,
     }
 }
 
-// Writes a text to `err` and returns `status`, or `WriteFault` if that fails.
-fn complain<E: Sink>(err: &mut E, text: &[u8], status: Status) -> Status {
-    match put_all(err, text) {
-        Ok(()) => status,
-        Err(_) => Status::WriteFault,
-    }
+// Reads the request in the words, and puts its overlays over the files.
+fn read_request<F: Files>(
+    alloc: Global,
+    words: &[Text],
+    files: &mut OverlaidFiles<F>,
+) -> Result<WhyRequest, WordsFault>
+    ensures { IfOk result HasWhyDigits }
+{
+    let request = read_why_words(alloc, words)?;
+    files.put_overlays(alloc, request.overlays.as_slice())?;
+    Ok(request)
 }
 
 fn run_request<O: Sink, E: Sink, F: Files, L: Ledger>(
@@ -67,7 +77,12 @@ fn run_request<O: Sink, E: Sink, F: Files, L: Ledger>(
 }
 
 // Reports why a run has no definitions.
-fn report_stop<E: Sink>(alloc: Global, err: &mut E, request: &WhyRequest, stop: Stop) -> Status {
+fn report_stop<E: Sink>(
+    alloc: Global,
+    err: &mut Output<E>,
+    request: &WhyRequest,
+    stop: Stop,
+) -> Status {
     let Some(words) = stop.words() else {
         return stop.status();
     };

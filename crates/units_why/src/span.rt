@@ -112,7 +112,8 @@ fn word_span(text: &[u8], from: usize, word: &[u8]) -> Option<Span> {
     for below in 0..text.len() {
         let (line, after) = cut_line(rest);
         let line = clean(line);
-        if let Some(start) = place_of_word(line, from, word) {
+        let code = line.strip_suffix(b"\\".as_slice()).unwrap_or(line);
+        if let Some(start) = place_of_word(code, from, word) {
             return Some(Span {
                 below,
                 start,

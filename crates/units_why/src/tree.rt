@@ -5,7 +5,7 @@ ghost use Rattle.reply.specs.Options.{AreReplyOptionsPrintable};
 use crate::evaluator::Evaluator;
 use crate::fault_step::FaultStep;
 use crate::open_calls::OpenCalls;
-use crate::outcome::{has_fault, step_of_tree};
+use crate::outcome::step_of_tree;
 use expr_tree::{Tree, parse_expr};
 use reply::Options;
 use std::alloc::AllocError;
@@ -19,6 +19,8 @@ pub(crate) struct RowTree {
     pub(crate) walk: Option<Walk>,
     /// The calls of the expression.
     pub(crate) calls: OpenCalls,
+    /// Whether the expression has a value.
+    pub(crate) has_value: bool,
     /// The step of the expression itself that has no value, if there is one.
     pub(crate) step: Option<FaultStep>,
 }
@@ -37,6 +39,7 @@ pub(crate) fn tree_of<L: Ledger>(
         Err(_) => Ok(RowTree {
             walk: None,
             calls: OpenCalls::none(alloc),
+            has_value: false,
             step: None,
         }),
     }
@@ -50,31 +53,16 @@ fn tree_with_rows<L: Ledger>(
     requires { AreReplyOptionsPrintable options.now }
 {
     let alloc = evaluator.alloc;
-    let walk = Walk::new(alloc, evaluator.deck(), tree)?;
-    let step = own_step(evaluator, options, tree, &walk)?;
-    let calls = OpenCalls::new(alloc, tree)?;
+    let has_value = evaluator.value_if_any(tree)?.is_some();
+    let step = if has_value {
+        None
+    } else {
+        step_of_tree(evaluator, tree)?
+    };
     Ok(RowTree {
-        walk: Some(walk),
-        calls,
-        step,
+        walk: Some(Walk::new(alloc, evaluator.deck(), tree)?),
+        calls: OpenCalls::new(alloc, tree)?,
+        has_value,
+        step: FaultStep::of_if(alloc, options, step)?,
     })
-}
-
-// Returns the step of an expression itself that has no value, if none of its words has a fault. These words are pending
-// before the first row.
-fn own_step<L: Ledger>(
-    evaluator: &mut Evaluator<L>,
-    options: &Options,
-    tree: &Tree,
-    walk: &Walk,
-) -> Result<Option<FaultStep>, AllocError>
-    requires { AreReplyOptionsPrintable options.now }
-{
-    for mention in walk.pending() {
-        if has_fault(evaluator, mention)? {
-            return Ok(None);
-        }
-    }
-    let step = step_of_tree(evaluator, tree)?;
-    FaultStep::of_if(evaluator.alloc, options, step)
 }

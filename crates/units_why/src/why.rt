@@ -5,8 +5,8 @@ ghost use Rattle.reply.specs.Options.{AreReplyOptionsPrintable};
 use crate::definitions::Definitions;
 use crate::evaluator::Evaluator;
 use crate::fault_step::FaultStep;
-use crate::json::{put_flag_member, put_string, put_text_member};
-use crate::output::OutputFault;
+use crate::json::{put_first_member, put_flag_member, put_text_member};
+use crate::output::{Output, OutputFault};
 use crate::row_style::RowStyle;
 use crate::rows::Rows;
 use crate::shadows::Shadows;
@@ -36,7 +36,7 @@ struct Explanation {
 
 /// Writes the reply to a question, followed by the trees of its expression and its unit. Returns whether it is refused.
 pub(crate) fn explain<O: Sink, L: Ledger>(
-    sink: &mut O,
+    output: &mut Output<O>,
     definitions: &mut Definitions<L>,
     options: &Options,
     question: Question<'_>,
@@ -45,7 +45,7 @@ pub(crate) fn explain<O: Sink, L: Ledger>(
 {
     let explanation = explanation_of(&mut definitions.evaluator, options, question)?;
     let is_refused = explanation.reply.refused;
-    put_explanation(sink, definitions, options, question, explanation)?;
+    put_explanation(output, definitions, options, question, explanation)?;
     Ok(is_refused)
 }
 
@@ -86,7 +86,7 @@ fn reply_to<L: Ledger>(
 }
 
 fn put_explanation<O: Sink, L: Ledger>(
-    sink: &mut O,
+    output: &mut Output<O>,
     definitions: &mut Definitions<L>,
     options: &Options,
     question: Question<'_>,
@@ -103,58 +103,55 @@ fn put_explanation<O: Sink, L: Ledger>(
     };
     let mut out = Writer::new(alloc);
     put_reply(&mut out, question, &explanation);
-    put_rows(sink, &mut out, definitions, style, explanation.tree)?;
-    put_rows(sink, &mut out, definitions, style, explanation.unit_tree)?;
-    out.send(sink)
+    put_rows(output, &mut out, definitions, style, explanation.tree)?;
+    put_rows(output, &mut out, definitions, style, explanation.unit_tree)?;
+    out.send(output)
 }
 
-// Appends a reply, and the steps without a value of the expression and the unit themselves.
+impl Explanation {
+    // Returns the step without a value of the side whose fault the reply states: of the expression, or of the unit if
+    // the expression has a value.
+    fn step(&self) -> Option<&FaultStep> {
+        if self.tree.has_value {
+            self.unit_tree.step.as_ref()
+        } else {
+            self.tree.step.as_ref()
+        }
+    }
+}
+
+// Appends a reply, and the step without a value of the side that it is about.
 fn put_reply(out: &mut Writer, question: Question<'_>, explanation: &Explanation) {
     if question.json {
         put_reply_json(out, question, explanation);
     } else {
         out.put(explanation.reply.text.as_bytes());
-        put_step_line(out, &explanation.tree);
-        put_step_line(out, &explanation.unit_tree);
+        if let Some(step) = explanation.step() {
+            out.put(b"in ");
+            step.put_text(out);
+            out.put_byte(b'\n');
+        }
     }
 }
 
 fn put_reply_json(out: &mut Writer, question: Question<'_>, explanation: &Explanation) {
     let reply = &explanation.reply;
     let text = reply.text.as_bytes();
-    out.put(b"{\"expression\":");
-    put_string(out, question.from);
+    put_first_member(out, b"expression", question.from);
     if !question.to.is_empty() {
         put_text_member(out, b"unit", question.to);
     }
     put_text_member(out, b"reply", text.strip_suffix(b"\n").unwrap_or(text));
     put_flag_member(out, b"refused", reply.refused);
-    if let Some(step) = first_step(explanation) {
+    if let Some(step) = explanation.step() {
         step.put_member(out);
     }
     out.put(b"}\n");
 }
 
-// Returns the step without a value of the expression itself, or else that of the unit.
-fn first_step(explanation: &Explanation) -> Option<&FaultStep> {
-    match &explanation.tree.step {
-        Some(step) => Some(step),
-        None => explanation.unit_tree.step.as_ref(),
-    }
-}
-
-// Appends a line for the step of an expression itself that has no value.
-fn put_step_line(out: &mut Writer, tree: &RowTree) {
-    if let Some(step) = &tree.step {
-        out.put(b"in ");
-        step.put_text(out);
-        out.put_byte(b'\n');
-    }
-}
-
 // Appends the rows of a tree to `out`, and writes `out` block by block. No row is stored.
 fn put_rows<O: Sink, L: Ledger>(
-    sink: &mut O,
+    output: &mut Output<O>,
     out: &mut Writer,
     definitions: &mut Definitions<L>,
     style: RowStyle<'_>,
@@ -171,7 +168,7 @@ fn put_rows<O: Sink, L: Ledger>(
         if !rows.put_next(out, definitions, style)? {
             break;
         }
-        out.send_block(sink)?;
+        out.send_block(output)?;
     }
     Ok(())
 }

@@ -2,14 +2,14 @@
 
 ghost use Rattle.reply.specs.Options.{AreReplyOptionsPrintable};
 
-use crate::output::{OutputFault, put_block};
+use crate::output::{Output, OutputFault};
 use crate::values::style_of;
 use def_entry::{Key, put_key};
 use frac128::Frac;
 use quantity::Quantity;
 use reply::Options;
 use std::alloc::{AllocError, Global};
-use units_io::{Sink, Text, put_all};
+use units_io::{Sink, Text};
 
 /// A text that is written in pieces. A piece that memory is too short for is left out, and the end reports it.
 pub(crate) struct Writer {
@@ -96,20 +96,23 @@ impl Writer {
         self.text.is_empty()
     }
 
-    /// Writes the text to `sink` and clears it, if it is at least a block.
-    pub(crate) fn send_block<O: Sink>(&mut self, sink: &mut O) -> Result<(), OutputFault> {
+    /// Writes the text to `output` and clears it, if it is at least a block.
+    pub(crate) fn send_block<O: Sink>(
+        &mut self,
+        output: &mut Output<O>,
+    ) -> Result<(), OutputFault> {
         if self.is_incomplete {
             return Err(OutputFault::OutOfMemory);
         }
-        put_block(sink, &mut self.text)
+        output.put_block(self.alloc, &mut self.text)
     }
 
-    /// Writes the text to `sink`.
-    pub(crate) fn send<O: Sink>(&self, sink: &mut O) -> Result<(), OutputFault> {
+    /// Writes the text to `output`.
+    pub(crate) fn send<O: Sink>(&self, output: &mut Output<O>) -> Result<(), OutputFault> {
         if self.is_incomplete {
             return Err(OutputFault::OutOfMemory);
         }
-        Ok(put_all(sink, self.text.as_slice())?)
+        output.put(self.alloc, self.text.as_slice())
     }
 
     /// Returns the text, if no piece was left out.
