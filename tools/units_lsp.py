@@ -1,15 +1,20 @@
 #!/usr/bin/env python3
+# SPDX-License-Identifier: MIT OR Apache-2.0
 """A language server for definition files of units, which calls `units-why`.
 
-    tools/units_lsp.py [--program UNITS_WHY]
+    tools/units_lsp.py [--program UNITS_WHY] [--seconds N]
 
 It speaks the Language Server Protocol on standard input and output: diagnostics as the text changes, go to definition,
 hover and the symbols of a file. All answers come from `units-why`; this script only splits lines.
 
 If another file in the folder includes a file, it is checked as a part of that one, so that it may use the definitions
-of the other files. The initialization option `root` names the file to check instead, and `findings` lists the words
-after `--lint`, by default `["--captures"]`. Unsaved text is checked in a temporary copy of the files, which lacks files
-that are included by a path with `..`.
+of the other files. The server looks for it when a file is opened or saved, in at most 100 files. The initialization
+option `root` names the file to check instead, and `findings` lists the words after `--lint`, by default
+`["--captures"]`.
+
+Each unsaved text is written to a file in a fresh folder that only its user can read, and units-why reads it in place of
+the file of its name. The server writes nothing else, and removes the folder at its end. If units-why cannot check a
+file, the file gets a diagnostic that says why.
 """
 
 from __future__ import annotations
@@ -19,26 +24,30 @@ import json
 import os
 import queue
 import re
-import shutil
-import subprocess
+import signal
 import sys
-import tempfile
 import threading
 from pathlib import Path
-from urllib.parse import unquote, urlparse
+from typing import BinaryIO
+
+sys.dont_write_bytecode = True  # an uninstall knows the installed files only
+from units_lsp_files import CannotCheck, Document, Files, plain_path, run_program, without_surrogates  # noqa: E402
 
 SEVERITIES = {"error": 1, "warning": 2, "information": 3}
 FINDINGS = ["--captures"]  # the default of the initialization option `findings`
 FUNCTION, VARIABLE, LIST, CONSTANT = 12, 13, 18, 14  # kinds of symbols in the protocol
-INCLUDE = re.compile(r"^[ \t]*![ \t]*include[ \t]+(\S+)[ \t]*(?:#.*)?$", re.MULTILINE)
+NOT_JSON, NOT_A_REQUEST, NO_METHOD, FAILED = -32700, -32600, -32601, -32603  # kinds of errors in the protocol
 NAME = re.compile(r"[ \t]*\+?([^\s#!+(\[]+)([(\[]?)")
 LIST_NAME = re.compile(r"[ \t]*![ \t]*unitlist[ \t]+(\S+)")
 WORD = re.compile(r"[^\s+\-*/^|()\[\]{},;:=~!#\"'<>?.0-9][^\s+\-*/^|()\[\]{},;:=~!#\"<>?]*")
-SECONDS = 20  # limit for one run of units-why
-
-
-def path_of(uri: str) -> Path:
-    return Path(unquote(urlparse(uri).path))
+# If the length of a message is wrong, the next length is at the end of a line of the message.
+LENGTH = re.compile(rb"content-length:[ \t]*([0-9]{1,9})[ \t]*\r?\n$", re.IGNORECASE)
+LONGEST_HEADER = 1 << 12
+LONGEST_MESSAGE = 1 << 26
+NOWHERE = {"start": {"line": 0, "character": 0}, "end": {"line": 0, "character": 0}}
+SIGNALS = (signal.SIGTERM, signal.SIGHUP, signal.SIGINT)
+# What a message of the wrong form leads to, wherever it is used.
+MALFORMED = (LookupError, TypeError, ValueError, AttributeError)
 
 
 def utf16_length(text: str) -> int:
@@ -66,192 +75,154 @@ def span(line: str, number: int, start: int, end: int) -> dict:
     return {"start": {"line": number, "character": first}, "end": {"line": number, "character": last}}
 
 
-def read_text(path: Path) -> str:
-    try:
-        return path.read_text(encoding="utf-8", errors="surrogateescape")
-    except OSError:
-        return ""
-
-
-class Overlay:
-    """The files to check: those on the disk, or a copy of them with the unsaved texts."""
-
-    def __init__(self, root: Path, unsaved: dict[Path, str]):
-        self.folder = root.parent
-        self.copy = None
-        self.root = root
-        if unsaved:
-            self.copy = Path(tempfile.mkdtemp(prefix="units-lsp-"))
-            self.root = self.copy / root.name
-            self.copy_file(root, unsaved, set())
-
-    def copy_file(self, path: Path, unsaved: dict[Path, str], copied: set[Path]) -> None:
-        """Copies a file and its includes."""
-        if path in copied:
-            return
-        copied.add(path)
-        text = unsaved.get(path)
-        if text is None:
-            text = read_text(path)
-        if self.folder in path.parents:
-            target = self.copy / path.relative_to(self.folder)
-            target.parent.mkdir(parents=True, exist_ok=True)
-            target.write_text(text, encoding="utf-8", errors="surrogateescape")
-        for name in INCLUDE.findall(text):
-            self.copy_file(path.parent / name, unsaved, copied)
-
-    def original(self, name: str) -> Path:
-        """The file on the disk for a file of this name in the overlay."""
-        path = Path(name)
-        if self.copy and self.copy in path.parents:
-            return self.folder / path.relative_to(self.copy)
-        return path
-
-    def message(self, text: str) -> str:
-        """A message with the names of the files on the disk."""
-        return text.replace(f"{self.copy}/", "") if self.copy else text.replace(f"{self.folder}/", "")
-
-    def __enter__(self) -> Overlay:
-        return self
-
-    def __exit__(self, *_: object) -> None:
-        if self.copy:
-            shutil.rmtree(self.copy, ignore_errors=True)
+def line_at(lines: list[str], number: int) -> str:
+    return lines[number] if 0 <= number < len(lines) else ""
 
 
 class Server:
-    """The open documents, and the answers to requests about them."""
+    """The answers to requests about the open documents."""
 
-    def __init__(self, program: str, out):
-        self.program = program
-        self.out = out
-        self.texts: dict[str, str] = {}
+    def __init__(self, program: str, seconds: float, out: BinaryIO):
+        self.program, self.seconds, self.out = program, seconds, out
+        self.files = Files()
         self.root: str | None = None
         self.findings = FINDINGS
         self.changed: set[str] = set()
-        self.files_with_findings: dict[Path, set[str]] = {}
+        self.uris_with_findings: dict[Path, set[str]] = {}
+        self.last_failure = ""
 
     def send(self, **message: object) -> None:
         body = json.dumps({"jsonrpc": "2.0", **message}).encode()
         self.out.write(b"Content-Length: %d\r\n\r\n" % len(body) + body)
         self.out.flush()
 
-    def run(self, overlay: Overlay, *words: str) -> list[dict]:
-        """The JSON objects that units-why writes about the files of an overlay."""
-        command = [self.program, "--json", "-f", str(overlay.root), *words]
-        process = subprocess.run(
-            command, stdin=subprocess.DEVNULL, stdout=subprocess.PIPE, stderr=subprocess.DEVNULL,
-            timeout=SECONDS, check=False,
-        )
-        return [json.loads(line) for line in process.stdout.decode("utf-8", "surrogateescape").splitlines()]
+    def notify(self, method: str, params: dict) -> None:
+        self.send(method=method, params=params)
 
-    def unsaved(self) -> dict[Path, str]:
-        """The documents whose text differs from the one on the disk."""
-        texts = {path_of(uri): text for uri, text in self.texts.items()}
-        return {path: text for path, text in texts.items() if text != read_text(path)}
+    def fail(self, code: int, text: str, number: object = None) -> None:
+        self.send(id=number, error={"code": code, "message": text})
 
-    def root_of(self, path: Path) -> Path:
-        """The file to check for a document: the first one that includes it and is included by none itself."""
-        if self.root:
-            return path.parent / self.root
-        includes = {
-            other: {other.parent / name for name in INCLUDE.findall(self.text_at(other))}
-            for other in sorted(path.parent.glob("*.units"))
-        }
-        visited = {path}
-        while True:
-            includers = [other for other, names in includes.items() if path in names and other not in visited]
-            if not includers:
-                return path
-            path = includers[0]
-            visited.add(path)
+    def run(self, root: Path, *words: str) -> tuple[int, list[dict]]:
+        """The status of units-why and the JSON objects that it writes about a file."""
+        program = os.path.abspath(self.program) if "/" in self.program else self.program
+        try:
+            overlays = self.files.overlays()
+        except OSError as fault:
+            raise CannotCheck(f"an unsaved text cannot be written: {fault.strerror}") from None
+        command = [program, "--json", f"--file={root}", *overlays, *words]
+        return run_program(command, self.files.folder if overlays else None, self.seconds)
 
-    def text_at(self, path: Path) -> str:
-        return self.texts.get(path.as_uri()) or read_text(path)
+    def find_root(self, document: Document) -> None:
+        """Chooses the file to check for a document."""
+        if document.path and self.root:
+            document.root = plain_path(os.path.join(document.path.parent, self.root))
+        elif document.path:
+            document.root = self.files.root_of(document.path)
 
-    def overlay_of(self, uri: str) -> Overlay:
-        return Overlay(self.root_of(path_of(uri)), self.unsaved())
-
-    def check(self, uri: str) -> None:
+    def check(self, document: Document) -> None:
         """Publishes the diagnostics of a document and of the files that are checked with it."""
-        diagnostics: dict[str, list[dict]] = {uri: []}
-        with self.overlay_of(uri) as overlay:
-            root = overlay.original(str(overlay.root))
-            for finding in self.run(overlay, "--lint", *self.findings):
-                if "file" in finding:
-                    place = overlay.original(finding["file"])
-                    diagnostics.setdefault(place.as_uri(), []).append(self.diagnostic(place, finding, overlay))
-        for old_uri in self.files_with_findings.get(root, set()) - set(diagnostics):
-            diagnostics[old_uri] = []
-        self.files_with_findings[root] = {name for name, findings in diagnostics.items() if findings}
-        for name, findings in diagnostics.items():
-            self.notify("textDocument/publishDiagnostics", {"uri": name, "diagnostics": findings})
+        root = document.root
+        try:
+            status, findings = self.run(root, "--lint", *self.findings)
+            if bool(status) != bool(findings):
+                raise CannotCheck(f"status {status} with {len(findings)} findings")
+        except CannotCheck as fault:
+            self.report_failure(document, f"{self.program} cannot check {root.name}: {fault}")
+            return
+        self.last_failure = ""
+        diagnostics = self.diagnostics_of(document, findings)
+        for uri in self.uris_with_findings.get(root, set()) - set(diagnostics):
+            diagnostics[uri] = []
+        self.uris_with_findings[root] = {uri for uri, found in diagnostics.items() if found}
+        for uri, found in diagnostics.items():
+            self.notify("textDocument/publishDiagnostics", {"uri": uri, "diagnostics": found})
 
-    def diagnostic(self, path: Path, finding: dict, overlay: Overlay) -> dict:
-        number = finding["line"] - 1
-        lines = self.text_at(path).split("\n")
-        line = lines[number] if number < len(lines) else ""
-        start, end = (characters_before(line, finding[place]) for place in ("column", "end"))
-        if start == end:
-            end = len(line.split("#")[0].rstrip())
+    def report_failure(self, document: Document, message: str) -> None:
+        """Says that a document was not checked, and to the user once for each reason."""
+        finding = {"range": NOWHERE, "severity": SEVERITIES["error"], "source": "units-why", "message": message}
+        self.uris_with_findings.setdefault(document.root, set()).add(document.uri)
+        self.notify("textDocument/publishDiagnostics", {"uri": document.uri, "diagnostics": [finding]})
+        if message != self.last_failure:
+            self.notify("window/showMessage", {"type": 1, "message": message})
+        self.last_failure = message
+
+    def diagnostics_of(self, document: Document, findings: list[dict]) -> dict[str, list[dict]]:
+        """The diagnostics of each file. A finding without a place is at the start of the document."""
+        diagnostics: dict[str, list[dict]] = {document.uri: []}
+        lines: dict[Path, list[str]] = {}
+        for finding in findings:
+            path = plain_path(finding["file"]) if "file" in finding else document.path
+            if path not in lines:
+                lines[path] = self.files.text_at(path).split("\n")
+            found = self.diagnostic(lines[path], finding, document.root)
+            diagnostics.setdefault(self.files.uri_of(path), []).append(found)
+        return diagnostics
+
+    @staticmethod
+    def diagnostic(lines: list[str], finding: dict, root: Path) -> dict:
+        place = NOWHERE
+        if "file" in finding:
+            number = finding["line"] - 1
+            line = line_at(lines, number)
+            start, end = (characters_before(line, finding[name]) for name in ("column", "end"))
+            if start == end:
+                end = len(line.split("#")[0].rstrip())
+            place = span(line, number, start, max(start, end))
         key = f"{finding['key']}: " if "key" in finding else ""
         return {
-            "range": span(line, number, start, max(start, end)),
+            "range": place,
             "severity": SEVERITIES[finding["severity"]],
             "source": "units-why",
-            "message": key + overlay.message(finding["message"]),
+            "message": key + finding["message"].replace(f"{root.parent}/", ""),
         }
+
+    def document_at(self, place: dict) -> Document:
+        return self.files.documents[place["textDocument"]["uri"]]
 
     def word_at(self, place: dict) -> str | None:
         """The word under the cursor."""
-        lines = self.texts.get(place["textDocument"]["uri"], "").split("\n")
-        number = place["position"]["line"]
-        line = lines[number] if number < len(lines) else ""
+        line = line_at(self.document_at(place).text.split("\n"), place["position"]["line"])
         column = column_of(line, place["position"]["character"])
         words = (match for match in WORD.finditer(line) if match.start() <= column <= match.end())
         return next((match.group() for match in words), None)
 
-    def rows_at(self, place: dict, overlay: Overlay) -> tuple[dict, list[dict]]:
+    def rows_at(self, place: dict) -> tuple[dict, list[dict]]:
         """The reply of units-why on the word under the cursor, and the rows of the word itself."""
-        word = self.word_at(place)
-        if not word:
+        root, word = self.document_at(place).root, self.word_at(place)
+        if not word or not root:
             return {}, []
-        reply, *rows = self.run(overlay, "--", word) or [{}]
+        _, (reply, *rows) = self.run(root, "--", word)
         return reply, [row for row in rows if row.get("depth") == 0 and "key" in row]
 
     def definition(self, place: dict) -> list[dict]:
-        with self.overlay_of(place["textDocument"]["uri"]) as overlay:
-            _, rows = self.rows_at(place, overlay)
-            return [self.location(overlay.original(row["file"]), row) for row in rows if "file" in row]
+        _, rows = self.rows_at(place)
+        return [self.location(plain_path(row["file"]), row["line"] - 1) for row in rows if "file" in row]
 
-    def location(self, path: Path, row: dict) -> dict:
-        number = row["line"] - 1
-        lines = self.text_at(path).split("\n")
-        line = lines[number] if number < len(lines) else ""
+    def location(self, path: Path, number: int) -> dict:
+        line = line_at(self.files.text_at(path).split("\n"), number)
         name = NAME.match(line)
         start, end = name.span(1) if name else (0, len(line))
-        return {"uri": path.as_uri(), "range": span(line, number, start, end)}
+        return {"uri": self.files.uri_of(path), "range": span(line, number, start, end)}
 
     def hover(self, place: dict) -> dict | None:
-        with self.overlay_of(place["textDocument"]["uri"]) as overlay:
-            reply, rows = self.rows_at(place, overlay)
-            if not rows:
-                return None
-            lines = [self.row_line(overlay, row) for row in rows]
-            if not reply.get("refused"):
-                lines.append(reply["reply"].strip())
-            return {"contents": {"kind": "plaintext", "value": "\n".join(lines)}}
+        reply, rows = self.rows_at(place)
+        if not rows:
+            return None
+        lines = [self.row_line(row) for row in rows]
+        if not reply["refused"]:
+            lines.append(reply["reply"].strip())
+        return {"contents": {"kind": "plaintext", "value": "\n".join(lines)}}
 
     @staticmethod
-    def row_line(overlay: Overlay, row: dict) -> str:
+    def row_line(row: dict) -> str:
         value = f" = {row['value']}" if "value" in row else ""
-        place = f" ({overlay.original(row['file']).name}:{row['line']})" if "file" in row else ""
+        place = f" ({Path(row['file']).name}:{row['line']})" if "file" in row else ""
         return f"{row['key']}: {row['how']}, {row.get('text', '')}{value}{place}"
 
     def symbols(self, place: dict) -> list[dict]:
         """The definitions of a document, line by line. A line that continues another one has none."""
         symbols, continues = [], False
-        for number, line in enumerate(self.texts.get(place["textDocument"]["uri"], "").split("\n")):
+        for number, line in enumerate(self.document_at(place).text.split("\n")):
             match = None if continues else (LIST_NAME.match(line) or NAME.match(line))
             if match:
                 name, kind = match.group(1), self.symbol_kind(match)
@@ -269,14 +240,11 @@ class Server:
             return FUNCTION
         return CONSTANT if match.group(1).endswith("-") else VARIABLE
 
-    def notify(self, method: str, params: dict) -> None:
-        self.send(method=method, params=params)
-
     def initialize(self, params: dict) -> dict:
         options = params.get("initializationOptions") or {}
         self.root = options.get("root")
-        self.findings = options.get("findings", FINDINGS)
-        self.program = options.get("program", self.program)
+        self.findings = [str(word) for word in options.get("findings", FINDINGS)]
+        self.program = str(options.get("program", self.program))
         capabilities = {
             "textDocumentSync": {"openClose": True, "change": 1, "save": True},
             "definitionProvider": True,
@@ -296,59 +264,87 @@ class Server:
         }
         handler = requests.get(message["method"])
         if handler is None:
-            self.send(id=message["id"], error={"code": -32601, "message": f"no method {message['method']}"})
+            self.fail(NO_METHOD, f"no method {message['method']}", message["id"])
             return
         try:
-            self.send(id=message["id"], result=handler(message.get("params") or {}))
-        except (OSError, subprocess.SubprocessError, ValueError, LookupError) as fault:
-            self.send(id=message["id"], error={"code": -32603, "message": f"{self.program}: {fault}"})
+            result = handler(message.get("params") or {})
+        except CannotCheck as fault:
+            self.fail(FAILED, f"{self.program}: {fault}", message["id"])
+        except MALFORMED as fault:
+            self.fail(NOT_A_REQUEST, f"malformed {message['method']}: {fault!r}", message["id"])
+        else:
+            self.send(id=message["id"], result=result)
 
     def take(self, message: dict) -> None:
         """Handles a notification. Changes are checked when no message is left."""
-        document = (message.get("params") or {}).get("textDocument", {})
-        uri = document.get("uri", "")
-        match message.get("method"):
-            case "textDocument/didOpen":
-                self.texts[uri] = document["text"]
-                self.changed.add(uri)
-            case "textDocument/didChange":
-                self.texts[uri] = message["params"]["contentChanges"][-1]["text"]
-                self.changed.add(uri)
-            case "textDocument/didSave":
-                self.changed.add(uri)
-            case "textDocument/didClose":
-                self.texts.pop(uri, None)
-                self.changed.discard(uri)
+        params = message.get("params") or {}
+        method = message["method"]
+        if not method.startswith("textDocument/did"):
+            return
+        uri = params["textDocument"]["uri"]
+        if method == "textDocument/didOpen":
+            self.find_root(self.files.open(uri, params["textDocument"]["text"]))
+        elif method == "textDocument/didChange":
+            self.files.documents[uri].text = without_surrogates(params["contentChanges"][-1]["text"])
+        elif method == "textDocument/didSave":
+            self.find_root(self.files.documents[uri])
+        elif method == "textDocument/didClose":
+            self.files.close(uri)
+        self.changed.add(uri)
 
     def check_changed(self) -> None:
-        for uri in sorted(self.changed & set(self.texts)):
-            try:
-                self.check(uri)
-            except (OSError, subprocess.SubprocessError, ValueError) as fault:
-                message = f"{self.program} cannot be run: {fault}"
-                self.notify("window/showMessage", {"type": 1, "message": message})
+        for uri in sorted(self.changed & set(self.files.documents)):
+            if self.files.documents[uri].root:
+                self.check(self.files.documents[uri])
         self.changed.clear()
 
+    def handle(self, body: bytes) -> bool:
+        """Handles a message, whatever it is. Returns whether the client goes on."""
+        try:
+            message = json.loads(body)
+        except (ValueError, RecursionError):
+            self.fail(NOT_JSON, "a message is not JSON")
+            return True
+        if not isinstance(message, dict) or not isinstance(message.get("method", ""), str):
+            self.fail(NOT_A_REQUEST, "a message is not a request")
+        elif "method" in message and "id" in message:
+            self.check_changed()
+            self.answer(message)
+        elif "method" in message:
+            try:
+                self.take(message)
+            except (OSError, *MALFORMED) as fault:
+                text = f"{message['method']} has no effect: {fault!r}"
+                self.notify("window/logMessage", {"type": 2, "message": text})
+        return not isinstance(message, dict) or message.get("method") != "exit"
 
-def read_message(source) -> dict | None:
-    """The next message, or None at the end of the input."""
-    length = 0
-    while header := source.readline():
-        if header == b"\r\n":
-            return json.loads(source.read(length))
-        name, _, value = header.partition(b":")
-        if name.lower() == b"content-length":
-            length = int(value)
+
+def read_body(source: BinaryIO) -> bytes | None:
+    """The body of the next message, or None at the end of the input. What is not a header is skipped."""
+    length = None
+    while line := source.readline(LONGEST_HEADER):
+        if header := LENGTH.search(line):
+            length = int(header[1])
+        elif line in (b"\r\n", b"\n") and length is not None and length <= LONGEST_MESSAGE:
+            body = source.read(length)
+            return body if len(body) == length else None
     return None
 
 
-def fill(messages: queue.Queue, source) -> None:
-    """Puts the messages of the input into a queue, and None after the last one."""
-    while message := read_message(source):
-        messages.put(message)
-        if message.get("method") == "exit":
-            return
+def fill(messages: queue.Queue, source: BinaryIO) -> None:
+    """Puts the bodies of the messages of the input into a queue, and None after the last one."""
+    while (body := read_body(source)) is not None:
+        messages.put(body)
     messages.put(None)
+
+
+def serve(server: Server) -> None:
+    """Handles messages until the client ends."""
+    messages: queue.Queue = queue.Queue(maxsize=100)
+    threading.Thread(target=fill, args=(messages, sys.stdin.buffer), daemon=True).start()
+    while (body := messages.get()) is not None and server.handle(body):
+        if messages.empty():
+            server.check_changed()
 
 
 def default_program() -> str:
@@ -360,19 +356,24 @@ def default_program() -> str:
 def main() -> int:
     parser = argparse.ArgumentParser(description="A language server for definition files of units.")
     parser.add_argument("--program", default=default_program(), help="the program units-why")
-    server = Server(parser.parse_args().program, sys.stdout.buffer)
-    messages: queue.Queue = queue.Queue()
-    threading.Thread(target=fill, args=(messages, sys.stdin.buffer), daemon=True).start()
-    while (message := messages.get()) is not None and message.get("method") != "exit":
-        if "id" in message and "method" in message:
-            server.check_changed()
-            server.answer(message)
-        else:
-            server.take(message)
-        if messages.empty():
-            server.check_changed()
-    return 0
+    parser.add_argument("--seconds", type=float, default=20, help="limit for one run of units-why (20)")
+    options = parser.parse_args()
+    server = Server(options.program, options.seconds, sys.stdout.buffer)
+    for number in SIGNALS:
+        signal.signal(number, lambda number, _: sys.exit(128 + number))
+    status = 0
+    try:
+        serve(server)
+    except BrokenPipeError:  # the client is gone
+        pass
+    except SystemExit as end:
+        status = end.code
+    finally:
+        for number in SIGNALS:
+            signal.signal(number, signal.SIG_IGN)
+        server.files.remove_folder()
+    return status
 
 
 if __name__ == "__main__":
-    sys.exit(main())
+    os._exit(main())  # the thread that reads the input may still wait, and the end of Python would wait for it

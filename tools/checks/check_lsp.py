@@ -11,29 +11,31 @@ from __future__ import annotations
 
 import argparse
 import json
+import os
 import shutil
 import subprocess
 import sys
 import tempfile
-import time
+import threading
 from dataclasses import dataclass
 from pathlib import Path
 
-sys.path.insert(0, str(Path(__file__).resolve().parents[1]))
+sys.path[:0] = [str(Path(__file__).resolve().parents[1]), str(Path(__file__).resolve().parent)]
+import lsp_attacks  # noqa: E402
 from built import find_program  # noqa: E402
+from lsp_attacks import framed  # noqa: E402
 
 ROOT = Path(__file__).resolve().parents[2]
 SERVER = ROOT / "tools/units_lsp.py"
 NEOVIM = ROOT / "tests/editors/units.lua"
 EMACS = ROOT / "tests/editors/units-eglot.el"
-SECONDS = 60
+SECONDS = 600  # after which a server or an editor that hangs is killed
 FILES = {
     "all.units": "!include base.units\n!include shop.units\n",
     "base.units": "m !\nkg !\nmilli- 1e-3\nin 25.4 millim # an inch\n",
     "shop.units": "board 12 in\n  shelf 3 missing\nheavy 2 m + kg\nµboard 2 boards\nrod 5 m #: kg\nmilliin 3 m\n"
     "dozen 12\n",
 }
-LONG_FILE_LINES = 20000
 
 
 @dataclass
@@ -55,16 +57,21 @@ class Results:
 
 
 class Client:
-    """A client, which starts its server."""
+    """A client, which starts its server. A server that does not answer is killed, and then there is no answer."""
 
-    def __init__(self, program: str):
-        command = [sys.executable, "-B", str(SERVER), "--program", program]
-        self.server = subprocess.Popen(command, stdin=subprocess.PIPE, stdout=subprocess.PIPE)
+    def __init__(self, program: str, *options: str, temporary: Path | None = None, limits: tuple[str, ...] = ()):
+        command = ["prlimit", *limits, sys.executable, "-B", str(SERVER), "--program", program, *options]
+        environment = {**os.environ, **({"TMPDIR": str(temporary)} if temporary else {})}
+        self.server = subprocess.Popen(command, stdin=subprocess.PIPE, stdout=subprocess.PIPE, env=environment)
+        self.watch = threading.Timer(SECONDS, self.server.kill)
+        self.watch.start()
         self.last = 0
 
     def send(self, message: dict) -> None:
-        body = json.dumps({"jsonrpc": "2.0", **message}).encode()
-        self.server.stdin.write(b"Content-Length: %d\r\n\r\n" % len(body) + body)
+        self.send_raw(framed(json.dumps({"jsonrpc": "2.0", **message}).encode()))
+
+    def send_raw(self, data: bytes) -> None:
+        self.server.stdin.write(data)
         self.server.stdin.flush()
 
     def receive(self) -> dict:
@@ -107,6 +114,10 @@ class Client:
     def end(self) -> int:
         self.ask("shutdown", {})
         self.tell("exit", {})
+        return self.wait()
+
+    def wait(self) -> int:
+        self.watch.cancel()
         return self.server.wait(SECONDS)
 
 
@@ -166,29 +177,21 @@ def check_findings_option(program: str, shop: Path, results: Results) -> None:
         client.end()
 
 
-def check_time(program: str, folder: Path, results: Results) -> None:
-    """Diagnostics of a long file take at most twice the time of the linter. The best of three is compared."""
-    path = folder / "long.units"
-    letters = str.maketrans("0123456789", "abcdefghij")
-    names = [f"n{str(i).translate(letters)}z" for i in range(LONG_FILE_LINES)]
-    path.write_text("m !\n" + "".join(f"{name} {i} m\n" for i, name in enumerate(names, 1)) + "last 2 gone\n")
-    client = Client(program)
+def check_runs(program: str, folder: Path, results: Results) -> None:
+    """A change of a file starts units-why once, with the unsaved text alone in place of a file."""
+    log, counted = folder / "runs", folder / "counted"
+    counted.write_text(f"#!/bin/sh\necho \"$@\" >> '{log}'\nexec '{program}' \"$@\"\n")
+    counted.chmod(0o700)
+    client = Client(str(counted))
+    shop = folder / "shop.units"
     client.ask("initialize", {})
-    client.open(path)
-    server_times, linter_times = [], []
-    for _ in range(3):
-        start = time.monotonic()
-        client.change(path, path.read_text())
-        server_times.append(time.monotonic() - start)
-        start = time.monotonic()
-        command = [program, "--lint", "--json", "-f", str(path)]
-        subprocess.run(command, stdin=subprocess.DEVNULL, stdout=subprocess.DEVNULL, check=False)
-        linter_times.append(time.monotonic() - start)
+    client.open(shop)
+    log.write_text("")
+    client.change(shop, "board 11 in\n")
     client.end()
-    ours, theirs = min(server_times), min(linter_times)
-    ratio = ours / theirs
-    print(f"diagnostics of {LONG_FILE_LINES} lines: {ours:.3f} s, the linter {theirs:.3f} s: {ratio:.2f}")
-    results.check(ratio <= 2, "diagnostics take more than twice the time of the linter")
+    runs = log.read_text().splitlines()
+    is_right = len(runs) == 1 and runs[0].count("--overlay=") == 1 and f"--overlay={shop}=" in runs[0]
+    results.check(is_right, f"a change leads to the runs {runs}")
 
 
 def check_editor(command: list[str], name: str, results: Results) -> None:
@@ -240,7 +243,9 @@ def main() -> int:
             for file, text in FILES.items():
                 (folder / file).write_text(text)
             check_protocol(program, folder, results)
-            check_time(program, folder, results)
+            check_runs(program, folder, results)
+            for attack in lsp_attacks.ATTACKS:
+                attack(Client, program, results)
             check_editors(program, folder, results)
     else:
         results.skip("units-why is not built")
