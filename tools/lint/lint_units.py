@@ -1,4 +1,5 @@
 #!/usr/bin/env python3
+# SPDX-License-Identifier: MIT OR Apache-2.0
 """Finds the traps in definition files of units that the program itself accepts.
 
     tools/lint/lint_units.py [OPTION..] FILE..
@@ -25,9 +26,10 @@ import argparse
 import os
 import re
 import sys
+from pathlib import Path
 
 from unit_answers import Fault, NoAnswers, Session, Value, default_program
-from unit_files import Kind, Place, read_deck
+from unit_files import DeckFault, Kind, Place, read_deck
 from unit_names import Names, Reading
 
 ENGLISH = set(
@@ -41,6 +43,8 @@ YEAR = re.compile(r"\b(1[89]|20)[0-9]{2}\b")
 BINARY_PREFIX = re.compile("([KMGTPEZYRQ]i|(kibi|mebi|gibi|tebi|pebi|exbi|zebi|yobi|robi|quebi))$")
 TOKEN = re.compile(r"(?P<number>[0-9.][0-9.|]*(?:[eE][+-]?[0-9]+)?)|(?P<word>[^\s+\-*/|^;~#()\[\]]+)|(?P<sign>\S)")
 NOTICE = re.compile(r"(.*):([0-9]+): (.*)")
+# Characters that a terminal obeys: controls, marks of direction, and bytes that are not UTF-8.
+HIDDEN = re.compile("[\x00-\x08\x0a-\x1f\x7f-\x9f\u061c\u200e\u200f\u202a-\u202e\u2066-\u2069\udc80-\udcff]")
 LONGEST_MISREADING = 7  # characters: a prefix and a unit of two each, and the ending of a plural
 UNITS_OPTION = re.compile(r"units=\[([^;\]]*);([^\]]*)\]")
 PROBE = "lint_probe"  # a unit of value 1, so that a prefix before it has the value of the prefix
@@ -263,6 +267,15 @@ def findings_of(file, options):
     return sorted(linter.findings, key=lambda finding: (order.get(finding[0].file, 0), finding[0].number))
 
 
+def version():
+    """The version of the release, whose file MADE_FROM an install has beside the library of units."""
+    folder = Path(__file__).resolve().parent
+    for file in (folder.parent / "MADE_FROM", folder.parents[1] / "release/MADE_FROM"):
+        if file.exists():
+            return next(line.split()[1] for line in file.read_text().splitlines() if line.startswith("version "))
+    return "unknown"
+
+
 def read_options():
     parser = argparse.ArgumentParser(
         prog="units-lint",
@@ -273,31 +286,50 @@ def read_options():
     parser.add_argument("--statuses", action="store_true", help="ask for the status of each definition")
     parser.add_argument("--dimensions", action="store_true", help="ask for the expected unit of each unit and prefix")
     parser.add_argument("-l", "--locale", default="en_US", help="the locale; otherwise en_US")
+    parser.add_argument("--version", action="version", version=f"units-lint {version()}")
     parser.add_argument("--program", default=default_program(), help="the program units; otherwise the one found first")
     return parser.parse_args()
 
 
+def shown(text, stream):
+    """A line for a stream. A terminal gets hidden characters in the form of units-why."""
+    return HIDDEN.sub(escape, text) if stream.isatty() else text
+
+
+def escape(match):
+    return "".join(f"\\x{byte:02x}" for byte in match[0].encode(errors="surrogateescape"))
+
+
 def write(findings):
     """Writes the findings with the bytes of the file. A closed pipe, as by head, ends the run."""
-    sys.stdout.reconfigure(encoding="utf-8", errors="surrogateescape")
     try:
         for place, message in findings:
-            print(f"{place}: {message}")
+            print(shown(f"{place}: {message}", sys.stdout))
         sys.stdout.flush()
     except BrokenPipeError:
         os.dup2(os.open(os.devnull, os.O_WRONLY), sys.stdout.fileno())
         sys.exit(1)
 
 
+def complain(message):
+    """Writes a message and ends the run."""
+    print(shown(f"lint_units: {message}", sys.stderr), file=sys.stderr)
+    sys.exit(2)
+
+
 def main():
     options, count = read_options(), 0
+    for stream in (sys.stdout, sys.stderr):
+        stream.reconfigure(encoding="utf-8", errors="surrogateescape")
     for file in options.files:
         try:
             findings = findings_of(file, options)
         except OSError as fault:
-            sys.exit(print(f"lint_units: {file}: {fault.strerror}", file=sys.stderr) or 2)
+            complain(f"{file}: {fault.strerror}")
+        except DeckFault as fault:
+            complain(f"{file}: {fault}")
         except NoAnswers as fault:
-            sys.exit(print(f"lint_units: {fault}", file=sys.stderr) or 2)
+            complain(fault)
         write(findings)
         count += len(findings)
     sys.exit(1 if count else 0)

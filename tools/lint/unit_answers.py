@@ -1,3 +1,4 @@
+# SPDX-License-Identifier: MIT OR Apache-2.0
 """Asks the program for exact values, in one session with a definition file."""
 
 from __future__ import annotations
@@ -62,6 +63,11 @@ def value_of(line):
     return Value(number, tuple(sorted(powers)))
 
 
+def lines_of(output):
+    """The lines of an output. A name may have a line separator of Unicode, which ends no line."""
+    return output.decode(errors="surrogateescape").split("\n")[:-1]
+
+
 def default_program():
     """The program of the repository, or the one on the path."""
     own = ROOT / "bin/units"
@@ -89,7 +95,7 @@ class Session:
         lines += [f"({expression})\n\n" for expression in expressions]
         command = [self.program, "-q", "--exact", "--compact", "-l", self.locale, "-f", self.file]
         run = self.run(command, "".join(lines))
-        replies = run.stdout.decode(errors="surrogateescape").splitlines()
+        replies = lines_of(run.stdout)
         if len(replies) != len(expressions):
             counts = f"{len(replies)} replies to {len(expressions)} expressions"
             raise NoAnswers(f"{self.program} is not the program, which answers each line: {counts}")
@@ -105,7 +111,7 @@ class Session:
     def check(self):
         """The lines of the program's own check of the file, on both streams."""
         run = self.run([self.program, "--check", "-l", self.locale, "-f", self.file], "")
-        return (run.stdout + run.stderr).decode(errors="surrogateescape").splitlines()
+        return lines_of(run.stdout + run.stderr)
 
     def run(self, command, text):
         environment = {**os.environ, **dict(self.variables)}

@@ -1,3 +1,4 @@
+# SPDX-License-Identifier: MIT OR Apache-2.0
 """Reads definition files of units: their lines, includes and blocks, and the comments on definitions.
 
 Lines that have no effect are skipped: the program reports them.
@@ -10,14 +11,21 @@ the next blank line.
 from __future__ import annotations
 
 import re
-from dataclasses import dataclass, field
+from dataclasses import dataclass, field, replace
 from enum import Enum
 from pathlib import Path
 
 BLANKS = " \t"
 DEEPEST_INCLUDE = 16
+# The limits of the program for a file and for a deck: without them, includes of itself would multiply a file.
+LONGEST_FILE = 1 << 24
+MOST_LINES, MOST_BYTES = 100_000, 1 << 26
 NOTE = re.compile(r"#([=:])[ \t]*([^#]*)")
 ENDS = {"endlocale": {"locale"}, "endvar": {"var", "varnot"}, "endutf8": {"utf8"}}
+
+
+class DeckFault(Exception):
+    """The program refuses a file, for this reason."""
 
 
 class Kind(Enum):
@@ -104,12 +112,13 @@ class Setting:
 
 @dataclass(frozen=True)
 class LogicalLine:
-    """A line with the lines that continue it. A blank line has no comment either."""
+    """A line with the lines that continue it, and the notes in its comment. A blank line has no comment either."""
 
     number: int
     text: str
     comment: str
     is_blank: bool
+    notes: tuple[str | None, str | None] = (None, None)
 
 
 @dataclass
@@ -118,6 +127,26 @@ class Deck:
 
     lines: list[Definition | Opening | Setting] = field(default_factory=list)
     files: list[str] = field(default_factory=list)
+    contents: dict[str, list[LogicalLine] | None] = field(default_factory=dict)
+    line_count: int = 0
+    byte_count: int = 0
+
+    def content(self, file):
+        """The lines of a file, or None if it is longer than the program reads. A file is read once."""
+        if file not in self.contents:
+            with open(file, "rb") as source:
+                content = source.read(LONGEST_FILE + 1)
+            is_short = len(content) <= LONGEST_FILE
+            text = content.decode(errors="surrogateescape")
+            self.contents[file] = condensed(logical_lines(text)) if is_short else None
+        return self.contents[file]
+
+    def count(self, text):
+        """Counts a line that the program keeps, which is each but a blank one."""
+        self.line_count += 1
+        self.byte_count += len(text.encode(errors="surrogateescape"))
+        if self.line_count > MOST_LINES or self.byte_count > MOST_BYTES:
+            raise DeckFault("deck full")
 
     @property
     def definitions(self):
@@ -158,6 +187,25 @@ def logical_lines(text):
         yield LogicalLine(start, "".join(parts).strip(BLANKS), " ".join(comments), False)
 
 
+def condensed(lines):
+    """The lines of a file with at most a blank line and a line of notes between two others, which do the same."""
+    kept = []
+    for line in lines:
+        line = replace(line, notes=notes_of(line.comment))
+        if line.is_blank:
+            while kept and not kept[-1].text:
+                kept.pop()
+        elif not line.text and kept and not kept[-1].text and not kept[-1].is_blank:
+            line = replace(line, notes=joined_notes(line.notes, kept.pop().notes))
+        kept.append(line)
+    return kept
+
+
+def joined_notes(notes, earlier):
+    """The notes, and those of an earlier line where they have none."""
+    return tuple(new or old for new, old in zip(notes, earlier))
+
+
 def notes_of(comment):
     """The status and the unit in a comment, each None if there is none."""
     notes = {mark: text.strip() for mark, text in NOTE.findall(comment)}
@@ -195,13 +243,15 @@ class FileReader:
     def blocks(self):
         return (*self.outer, *self.open_blocks)
 
-    def read(self, text):
+    def read(self, lines):
         self.deck.files.append(self.file)
-        for line in logical_lines(text):
+        for line in lines:
+            if line.text:
+                self.deck.count(line.text)
             if line.is_blank:
                 self.group = (None, None)
             elif not line.text:
-                self.group = tuple(new or old for new, old in zip(notes_of(line.comment), self.group))
+                self.group = joined_notes(line.notes, self.group)
             elif line.text.startswith("!"):
                 self.direct(line)
             else:
@@ -210,7 +260,7 @@ class FileReader:
     def define(self, line):
         kind, name, text = key_of(line.text)
         if name and text:
-            notes = [own or group for own, group in zip(notes_of(line.comment), self.group)]
+            notes = joined_notes(line.notes, self.group)
             place = Place(self.file, line.number)
             self.deck.lines.append(Definition(kind, name, text, place, self.blocks, *notes, line.comment))
 
@@ -240,12 +290,16 @@ class FileReader:
 def read_into(deck, includer, name, blocks, depth):
     """Reads an included file into a deck, if it exists and is not nested too deep."""
     file = name if name.startswith("/") else includer[: includer.rfind("/") + 1] + name
-    if depth <= DEEPEST_INCLUDE and Path(file).is_file():
-        FileReader(deck, file, blocks, depth).read(Path(file).read_bytes().decode(errors="surrogateescape"))
+    if depth <= DEEPEST_INCLUDE and (file in deck.contents or Path(file).is_file()):
+        if (lines := deck.content(file)) is not None:
+            FileReader(deck, file, blocks, depth).read(lines)
 
 
 def read_deck(file):
-    """The deck of a file with its includes. Raises OSError if a file cannot be read."""
+    """The deck of a file with its includes. Raises OSError if a file cannot be read, and DeckFault as the program."""
     deck, file = Deck(), str(file)
-    FileReader(deck, file, (), 0).read(Path(file).read_bytes().decode(errors="surrogateescape"))
+    lines = deck.content(file)
+    if lines is None:
+        raise DeckFault("file too long")
+    FileReader(deck, file, (), 0).read(lines)
     return deck

@@ -1,3 +1,4 @@
+# SPDX-License-Identifier: MIT OR Apache-2.0
 """Looks up words of a query among the names of definitions, in the same order as the program."""
 
 from __future__ import annotations
