@@ -492,10 +492,30 @@ answers from the definitions of the units. LIBRARY is the path of share/units/st
   \t* 0.000258 (esc)
   $ over "1 Sv" rem
   \t* 100 (esc)
-  $ over "440 Hz" rpm
+  $ over "440 Hz * rev" rpm
   \t* 26400 (esc)
-  $ over "3600 rpm" Hz
+  $ over "3600 rpm / rev" Hz
   \t* 60 (esc)
+  $ over "3600 rpm" Hz
+  conformability error
+  \t376.99112 radian / s (esc)
+  \t1 / s (esc)
+  [1]
+  $ over "3000 rpm" rad/s
+  \t* 314.15927 (esc)
+  $ over "1 rpm" rev/min
+  \t* 1 (esc)
+  $ over "10 rps" rpm
+  \t* 600 (esc)
+  $ over "100 N m * 3000 rpm" kW
+  conformability error
+  \t31415.927 kg m^2 radian / s^3 (esc)
+  \t1000 kg m^2 / s^3 (esc)
+  [1]
+  $ over "100 N m * 3000 rpm / rad" kW
+  \t* 31.415927 (esc)
+  $ over "(3000 rpm / rad)^2 * 10 cm" gravity
+  \t* 1006.4196 (esc)
   $ over "1 rev" degrees
   \t* 360 (esc)
   $ over "90 degrees" rad

@@ -24,6 +24,8 @@ CONSTANTS = {
     "c1": ("first_radiation_constant", "W m^2"), "c2": ("second_radiation_constant", "m K"), "he": ("h_over_e", "V s"),
     "hk": ("h_over_k", "K s"), "2eh": ("two_e_over_h", "Hz/V"),
     "G": ("gravitational_constant", "N m^2/kg^2"), "planck_mass": ("planck_mass", "kg"), "eV": ("eV", "J"),
+    "L0": ("zero_magnitude_luminosity", "W"), "f0": ("zero_magnitude_irradiance", "W/m^2"), "pc": ("parsec", "m"),
+    "sidereal_day": ("sidereal_day", "s"),
 }  # fmt: skip
 
 
@@ -65,6 +67,9 @@ RELATIONS = [
     ("mu_B = e hbar/2 m_e", "7e-10", lambda v: (v["muB"], v["e"] * v["hbar"] / (2 * v["me"]))),
     ("mu_N = e hbar/2 m_p", "7e-10", lambda v: (v["muN"], v["e"] * v["hbar"] / (2 * v["mp"]))),
     ("m_e/u = 5.485799090441e-4", "7e-10", lambda v: (v["me"] / v["u"], Fraction("5.485799090441e-4"))),
+    ("f_0 = L_0/4 pi (10 pc)^2", "3e-10", lambda v: (v["f0"], v["L0"] / (4 * PI * (10 * v["pc"]) ** 2))),
+    ("the sidereal day of 1982", "1e-9",
+     lambda v: (v["sidereal_day"], 86400 / (1 + Fraction("8640184.812866") / (36525 * 86400)))),
     ("m_P = sqrt(hbar c/G)", "2e-5", lambda v: (v["planck_mass"], root(v["hbar"] * v["c"] / v["G"]))),
 ]  # fmt: skip
 

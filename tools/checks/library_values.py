@@ -1,16 +1,21 @@
 """Compares the values of the library with tables that were typed from printed sources.
 
-The tables are in tests/library: conversion factors, constants with their uncertainties, and symbols of units with the
-prefixes that they take.
+The tables are in tests/library, but for tools/constants.tsv: conversion factors, constants with their uncertainties,
+symbols of units with the prefixes that they take, and the names of other programs with their values.
 """
 
 from __future__ import annotations
 
+from collections.abc import Callable
+from dataclasses import dataclass
 from decimal import Decimal
 from fractions import Fraction
+from functools import partial
 from pathlib import Path
 
 from unit_answers import Fault, Value
+from unit_names import Names
+from write_constants import read_constants
 
 TABLES = Path(__file__).resolve().parents[2] / "tests/library"
 POWERS_OF_TEN = {
@@ -23,6 +28,7 @@ WORDS = {
     "kilo": 3, "hecto": 2, "deca": 1, "deci": -1, "centi": -2, "milli": -3, "micro": -6, "nano": -9, "pico": -12,
     "femto": -15, "atto": -18, "zepto": -21, "yocto": -24, "ronto": -27, "quecto": -30,
 }  # fmt: skip
+DIGITS_OF_OTHERS = 11  # their values are rounded to twelve
 BINARY = {"Ki": 1, "Mi": 2, "Gi": 3, "Ti": 4, "Pi": 5, "Ei": 6}
 
 
@@ -69,34 +75,105 @@ def mismatch(value, unit):
     return "; ".join(faults) or f"{value.dimensions} does not conform to {unit.dimensions}"
 
 
-def check_factors(session, results):
+@dataclass(frozen=True)
+class Comparison:
+    """Expressions of the library, and why their values disagree with a source: an empty text if they agree."""
+
+    name: str
+    expressions: tuple[str, ...]
+    fault_of: Callable[..., str]
+
+
+def check_comparisons(session, comparisons, results):
+    expressions = list(dict.fromkeys(text for comparison in comparisons for text in comparison.expressions))
+    values = dict(zip(expressions, session.values(expressions)))
+    for comparison in comparisons:
+        fault = comparison.fault_of(*(values[text] for text in comparison.expressions))
+        results.check(comparison.name, not fault, fault)
+
+
+def factor_fault(printed, precision, document, value, unit):
+    ratio = quotient(value, unit)
+    if ratio is None:
+        return mismatch(value, unit)
+    is_equal = ratio == Fraction(printed) if precision == "exact" else agrees(ratio, printed)
+    return "" if is_equal else f"{float(ratio):.12g}, but {document} prints {printed}"
+
+
+def compare_factors():
     """Each factor of the library is the printed one: equal if that is exact, else in each digit."""
-    rows = list(rows_of("factors.tsv"))
-    values = session.values([row[0] for row in rows])
-    units = session.values([row[1] for row in rows])
-    results.check("factors: at least 250", len(rows) >= 250, f"{len(rows)} rows")
-    for (source, target, printed, precision, document), value, unit in zip(rows, values, units):
-        ratio = quotient(value, unit)
-        if ratio is None:
-            results.check(f"factor {source} to {target}", False, mismatch(value, unit))
-            continue
-        is_equal = ratio == Fraction(printed) if precision == "exact" else agrees(ratio, printed)
-        detail = f"{float(ratio):.12g}, but {document} prints {printed}"
-        results.check(f"factor {source} to {target}", is_equal, detail)
+    for source, target, printed, precision, document in rows_of("factors.tsv"):
+        fault_of = partial(factor_fault, printed, precision, document)
+        yield Comparison(f"factor {source} to {target}", (source, target), fault_of)
 
 
-def check_constants(session, results):
+def constants():
+    """The constants with a published value: expression, unit, value, uncertainty."""
+    yield from rows_of("constants.tsv")
+    for constant in read_constants():
+        yield constant.name, constant.dimensions, constant.digits, constant.uncertainty
+
+
+def constant_fault(printed, tolerance, value, unit):
+    ratio = quotient(value, unit)
+    if ratio is None:
+        return mismatch(value, unit)
+    is_near = abs(ratio - Fraction(printed)) <= tolerance
+    return "" if is_near else f"{float(ratio):.14g}, but published is {printed}"
+
+
+def compare_constants():
     """Each constant is the published one in each digit, or within its uncertainty if it is derived from others."""
-    rows = list(rows_of("constants.tsv"))
-    values = session.values([row[0] for row in rows])
-    units = session.values([row[1] for row in rows])
-    for (name, unit_text, printed, uncertainty), value, unit in zip(rows, values, units):
-        ratio = quotient(value, unit)
-        if ratio is None:
-            results.check(f"constant {name} in {unit_text}", False, mismatch(value, unit))
-            continue
-        is_near = abs(ratio - Fraction(printed)) <= tolerance_of(name, printed, uncertainty)
-        results.check(f"constant {name} in {unit_text}", is_near, f"{float(ratio):.14g}, but published is {printed}")
+    for name, unit, printed, uncertainty in constants():
+        fault_of = partial(constant_fault, printed, tolerance_of(name, printed, uncertainty))
+        yield Comparison(f"constant {name} in {unit}", (name, unit), fault_of)
+
+
+def compare_points():
+    """Each point of a table has the value that its source has."""
+    for table, unit, precision, document, points in rows_of("points.tsv"):
+        for number, printed in map(str.split, points.split(",")):
+            fault_of = partial(factor_fault, printed, precision, document)
+            number = f"({number})" if number.startswith("-") else number
+            yield Comparison(f"point {table}({number}) in {unit}", (f"{table}({number})", unit), fault_of)
+
+
+def witness_fault(tolerance, program, value, other):
+    ratio = quotient(without_radians(value), without_radians(other))
+    if ratio is None:
+        return mismatch(without_radians(value), without_radians(other))
+    return "" if abs(ratio - 1) <= tolerance else f"{float(ratio):.12g} times the value of {program}"
+
+
+def compare_witnesses():
+    """Each expression has the value of a unit of another program, within the tolerance of its row."""
+    values = {file.stem: dict(rows_of(f"names/{file.name}")) for file in (TABLES / "names").glob("*.tsv")}
+    for expression, program, name, tolerance in rows_of("witnesses.tsv"):
+        fault_of = partial(witness_fault, Fraction(tolerance), f"{name} in {program}")
+        value = values[program].get(name, "no such unit")
+        yield Comparison(f"witness {expression} as {name} of {program}", (expression, value), fault_of)
+
+
+def status_fault(status, is_printed, uncertainty):
+    """Why a constant with this uncertainty cannot have this status, or nothing."""
+    if uncertainty == "...":
+        return "its digits are cut off" if is_printed and status.startswith("exact") else ""
+    if uncertainty != "exact" and not status.startswith("measured"):
+        return f"it is published with the uncertainty {uncertainty}"
+    return ""
+
+
+def check_statuses(session, definitions, results):
+    """No constant is called more exact than it is published, and corrected statuses stay."""
+    statuses = {definition.name: definition.status or "" for definition in definitions}
+    rows = [row for row in constants() if row[0] in statuses]
+    values, units = session.values([row[0] for row in rows]), session.values([row[1] for row in rows])
+    for (name, _, printed, uncertainty), value, unit in zip(rows, values, units):
+        fault = status_fault(statuses[name], quotient(value, unit) == Fraction(printed), uncertainty)
+        results.check(f"status of {name}", not fault, f"{statuses[name]}, but {fault}")
+    for name, beginning, reason in rows_of("statuses.tsv"):
+        status = statuses.get(name, "")
+        results.check(f"status of {name}", status.startswith(beginning), f"{status}, not {beginning}: {reason}")
 
 
 def check_spellings(session, names, results):
@@ -113,6 +190,22 @@ def check_spellings(session, names, results):
         for other in others:
             detail = f"{values[other]}, but {first} is {values[first]}"
             results.check(f"spelling {other}", values[other] == values[first], detail)
+
+
+def folded(name):
+    return name.replace("_", "").lower()
+
+
+def check_gnu_spellings(definitions, results):
+    """A name of GNU units that differs from a unit here in underscores or case only is defined or omitted by a row."""
+    names = {definition.name for definition in definitions}
+    omitted = {name for name, _ in rows_of("omitted_names.tsv")}
+    known = {folded(name) for name in names}
+    for name, _ in rows_of("names/gnu.tsv"):
+        if folded(name) in known:
+            is_right = (name in names) != (name in omitted)
+            detail = "defined and omitted" if name in names else "neither defined nor omitted"
+            results.check(f"spelling {name}", is_right, detail)
 
 
 def check_lists(session, lists, results):
@@ -139,16 +232,59 @@ def words_with_prefixes(symbol, prefixes):
         yield name + symbol, factor
 
 
-def check_symbols(session, results):
+def symbol_fault(factor, value, base):
+    expected = base if isinstance(base, Fault) else Value(factor * base.number, base.powers)
+    return "" if value == expected else f"{value}, not {expected}"
+
+
+def compare_symbols():
     """Each symbol of a unit has the value in the table, alone and with each of its prefixes."""
-    words, numbers = [], []
     for symbol, number, unit, prefixes in rows_of("symbols.tsv"):
         for word, factor in [(symbol, Fraction(1)), *words_with_prefixes(symbol, prefixes.split())]:
-            words.append(word)
-            numbers.append((factor * Fraction(number), unit))
-    units = sorted({unit for _, unit in numbers})
-    unit_values = dict(zip(units, session.values(units)))
-    for word, (number, unit), value in zip(words, numbers, session.values(words)):
-        base = unit_values[unit]
-        expected = base if isinstance(base, Fault) else Value(number * base.number, base.powers)
-        results.check(f"symbol {word}", value == expected, f"{value}, not {expected}")
+            yield Comparison(f"symbol {word}", (word, unit), partial(symbol_fault, factor * Fraction(number)))
+
+
+def printed_comparisons():
+    """The comparisons with printed values and with the values of other programs."""
+    return [*compare_factors(), *compare_points(), *compare_constants(), *compare_symbols(), *compare_witnesses()]
+
+
+def without_radians(value):
+    """A value as the other programs have it, in which the radian is 1."""
+    if isinstance(value, Fault):
+        return value
+    return Value(value.number, tuple(pair for pair in value.powers if pair[0] != "radian"))
+
+
+def readings_of(definitions, file):
+    """The names in a table of another program that are no units here but have a reading, with it and their value."""
+    names = Names(definitions)
+    for name, value in rows_of(file):
+        reading = names.derived_reading(name)
+        if reading and name not in names.units and name not in names.functions:
+            yield name, str(reading), value
+
+
+def check_readings(session, definitions, results):
+    """A unit of another program that the library reads as a plural or as a prefix and a unit has its value there.
+
+    If both have one dimension and not one value, a row of decided_readings.tsv has the name, the reading, the value
+    there and a reason. A row without such a difference is stale.
+    """
+    different, decided = set(), {tuple(row[:3]) for row in rows_of("decided_readings.tsv")}
+    for file in sorted((TABLES / "names").glob("*.tsv")):
+        rows = list(readings_of(definitions, f"names/{file.name}"))
+        ours, theirs = session.values([row[0] for row in rows]), session.values([row[2] for row in rows])
+        for row, our_value, their_value in zip(rows, map(without_radians, ours), theirs):
+            is_read = not isinstance(their_value, Fault)
+            results.check(f"reading {row[0]}", is_read, f"{row[2]} of {file.name}: {their_value}")
+            ratio = quotient(our_value, their_value)
+            if ratio is None:
+                continue
+            is_equal = abs(ratio - 1) <= Fraction(1, 10**DIGITS_OF_OTHERS)
+            detail = f"read as {row[1]}, {float(ratio):.6g} times {row[2]} of {file.name}: define or decide it"
+            results.check(f"reading {row[0]}", is_equal or row in decided, detail)
+            if not is_equal:
+                different.add(row)
+    for row in sorted(decided - different):
+        results.check(f"reading {row[0]}", False, "decided_readings.tsv has a row without this difference")
