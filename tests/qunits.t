@@ -251,6 +251,29 @@ A file of the user's own, and command lines with `-f`.
   $ qunits --new 2> /dev/null
   [5]
   $ rm -r .config
+  $ for folder in 'R&D' 'a\b' 'a|b' "it's" 'a"b' '$(x)`y`' 'a b' 'a#b' 'a
+  > b'; do
+  >     mkdir -p "$folder/bin" && cp "$(command -v qunits)" "$(command -v units)" "$folder/bin"
+  >     ln -s "${LIBRARY%/units/*}" "$folder/share"
+  >     "$folder/bin/qunits" --new > /dev/null && qunits -t 1 ft to m; ls -A .config 2> /dev/null
+  >     rm -rf "$folder" .config
+  > done
+  0.3048
+  units
+  0.3048
+  units
+  0.3048
+  units
+  0.3048
+  units
+  0.3048
+  units
+  0.3048
+  units
+  qunits: !include cannot name a path with blanks or #: */a b/share/units/standard.units (glob)
+  qunits: !include cannot name a path with blanks or #: */a#b/share/units/standard.units (glob)
+  qunits: !include cannot name a path with blanks or #: */a (glob)
+  b/share/units/standard.units
 
 In a session, lines go to `units` unchanged.
 
@@ -263,6 +286,23 @@ In a session, lines go to `units` unchanged.
   $ ls -A
   a folder
   err
+
+Without quotes, the shell takes the `>` of `->` as a redirection. `qunits` writes nothing to that file, and says so.
+
+  $ echo precious > km
+  $ qunits 5 miles -> km 2> err
+  [2]
+  $ sed 's/ and emptied .*//; s/ km$/ UNIT/' err
+  qunits: a - ends FROM. If you wrote -> without quotes, the shell took > as a redirection
+  qunits: write: qunits 5 miles to UNIT
+  $ wc -c < km
+  0
+  $ rm km
+  $ qunits -q 5 miles - 2>&1 | cat
+  qunits: a - ends FROM. If you wrote -> without quotes, the shell took > as a redirection
+  qunits: write: qunits 5 miles to UNIT
+  $ qunits 5 m - 2 m to m -t
+  3
 
 Hints are printed on standard error, unless `-q` or `-t` is given.
 
@@ -305,6 +345,12 @@ Hints are printed on standard error, unless `-q` or `-t` is given.
   $ qunits 300 K to C 2>&1 > /dev/null
   qunits: for a temperature, not a difference: qunits 300 K to tempC
   [1]
+  $ for unit in tempC celsius °F; do qunits 77 K to $unit; done
+  \t-196.15 (esc)
+  \t-196.15 (esc)
+  \t-321.07 (esc)
+  $ qunits 77 K to degC 2>&1 > /dev/null
+  qunits: for a temperature, not a difference: qunits 77 K to tempC
   $ qunits 3e8 m/s to c 2>&1 > /dev/null
   $ printf '98.6\n' | apart qunits --column 1 degF to degC
   54.777778
@@ -365,6 +411,12 @@ The arguments that another program in the place of `units` gets, and a status th
   <-tf><x><--check><--><5 m><ft>
   [1]
 
+A plain conversion starts no process but `readlink` and `units`.
+
+  $ mkdir only && ln -s "$(command -v readlink)" only
+  $ PATH=$PWD/only STATUS=0 bin/qunits -f x 60 mph to km/h
+  <-f><x><--><60 mph><km/h>
+
 `--why` shows the chain of definitions, if `units-why` is installed.
 
   $ apart bin/qunits --why 3 dyn
@@ -381,7 +433,7 @@ The arguments that another program in the place of `units` gets, and a status th
 Help, the version, and the names that may be converted.
 
   $ qunits --help | head -n 1
-  usage: qunits [OPTIONS] FROM to UNIT    qunits 60 mph to km/h    ("into", "->" and "=" separate them too)
+  usage: qunits [OPTIONS] FROM to UNIT    qunits 60 mph to km/h    ("into" and "=" separate them too)
   $ qunits --help | tail -n 1
   "in" is the inch, but means "to" between two units if there is no "to". Quote ? * ( ) ; and -> for the shell.
   $ qunits --version

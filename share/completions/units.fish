@@ -1,3 +1,4 @@
+# SPDX-License-Identifier: MIT OR Apache-2.0
 # Completions of units, qunits, units-why and units-lint for fish.
 
 # The names that the command converts, after the part of the word before the last name.
@@ -26,7 +27,9 @@ function __units_expression
         set -a options -f (string replace -r '^~/' "$HOME/" -- "$file")
     end
     set -l qunits (path dirname $program)/qunits
-    printf '%s\n' $front(command $qunits --names $options 2>/dev/null)
+    # A terminal obeys control characters and direction marks.
+    set -l invisible '[\x{80}-\x{9f}\x{61c}\x{200e}\x{200f}\x{202a}-\x{202e}\x{2066}-\x{2069}]'
+    printf '%s\n' $front(command $qunits --names $options 2>/dev/null | string match -rv $invisible)
 end
 
 for program in units qunits
@@ -60,12 +63,14 @@ complete -c units-why -l exact -d 'Numbers as n or n|d'
 complete -c units-why -l json -d 'One JSON object a line'
 complete -c units-why -s f -l file -r -F -d 'Definition file'
 complete -c units-why -s l -l locale -x -a 'en_US en_GB' -d Locale
+complete -c units-why -l overlay -x -d 'NAME=PATH, a file to read in place of another'
 complete -c units-why -l lint -d 'What is found in all definitions'
 complete -c units-why -l captures -d 'With --lint also names that hide other readings'
 complete -c units-why -l unused -d 'With --lint also definitions that nothing uses'
 
 complete -c units-lint -F
 complete -c units-lint -l help -d 'What is reported'
+complete -c units-lint -l version -d 'The version'
 complete -c units-lint -l statuses -d 'Ask for the status of each definition'
 complete -c units-lint -l dimensions -d 'Ask for the expected unit of each definition'
 complete -c units-lint -s l -l locale -x -a 'en_US en_GB' -d Locale

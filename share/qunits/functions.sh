@@ -1,13 +1,23 @@
 # shellcheck shell=sh disable=SC2034,SC2154 # bin/qunits sets and reads from, to, reply and status
+# SPDX-License-Identifier: MIT OR Apache-2.0
 # Functions of bin/qunits: the names of a library, notations that units reads differently, and hints.
 
 # write_own_file: the option --new.
 write_own_file() {
     if [ -e "$own" ]; then refuse "$own exists already"; fi
-    case $file in *[[:space:]\#\|]*) refuse "!include cannot name a path with blanks: $file" ;; esac
-    mkdir -p "${own%/*}" && sed "s|^!include .*|!include $file|" "$root/share/qunits/first.units" > "$own.new" &&
-        mv "$own.new" "$own" && echo "$own" && exit
-    rm -f "$own.new"; say "could not write $own"; exit 5
+    case $file in *[[:space:]\#]*) refuse "!include cannot name a path with blanks or #: $file" ;; esac
+    replacement=$(printf '%s\n' "$file" | sed 's/[&|\\]/\\&/g')
+    mkdir -p -- "${own%/*}" && sed "s|^!include .*|!include $replacement|" "$root/share/qunits/first.units" > "$own.new" &&
+        mv -- "$own.new" "$own" && show 1 '\\x0a' "$own" && exit
+    rm -f -- "$own.new"; say "could not write $own"; exit 5
+}
+
+# refuse_redirection: refuses a FROM whose last word is "-", which is what the shell leaves of "-> UNIT" without quotes.
+refuse_redirection() {
+    output=$(readlink /proc/$$/fd/1) || output=''
+    if [ -f "$output" ]; then emptied=" and emptied $output" unit=${output##*/}; else emptied='' unit=UNIT; fi
+    say "a - ends FROM. If you wrote -> without quotes, the shell took > as a redirection$emptied"
+    refuse "write: qunits ${from% -} to $unit"
 }
 
 # list_names: prints the units, functions and lists of the file. Each name has a printing character of ASCII or a
@@ -17,6 +27,8 @@ list_names() {
         "$program" -q ${file:+-f "$file"} ${locale:+-l "$locale"} 2> /dev/null | LC_ALL=C sort -u |
         awk -F '\t' 'NF > 2 && $2 !~ /-$/ { sub(/^!unitlist /, "", $2); sub(/\(\)$/, "", $2); print $2 }'
 }
+
+show_names() { if [ -t 1 ]; then list_names | visible '\n'; else list_names; fi; }
 
 # with_fractions TEXT: prints 3/4 in as 3|4 in, and 2 1/2 cups as (2+1|2) cups; units would divide by the unit. Prints
 # 1½ cups and 1 ½ cups as (1+½) cups, since units would multiply, and m² as m^2.
@@ -38,7 +50,7 @@ ask_joined() {
             *) to="${to%%"$word "*}${word}_${to#*"$word "}" ;;
         esac
         status=0
-        reply=$("$program" "$@" -- "$from" ${to:+"$to"}) || status=$?
+        reply=$(run "$@" -- "$from" ${to:+"$to"}) || status=$?
     done
     case $reply in
         'unknown unit: '*) from=$first_from to=$first_to reply=$first_reply joined=$word ;;
@@ -54,14 +66,19 @@ scale_of() {
     esac
 }
 
+# is_temperature WORD: whether the word is a function of temperatures, not a unit of differences.
+is_temperature() { case $1 in temp* | [Cc]elsius | [Ff]ahrenheit | °*) ;; *) false ;; esac; }
+
 # hint_at_temperature: succeeds with a hint if both sides may be temperatures. The units degF and degC are differences.
 hint_at_temperature() {
     target=$(scale_of "$to")
     if [ ! "$target" ]; then return 1; fi
+    if [ "$status" = 0 ] && is_temperature "$to"; then converted=K; else converted=''; fi
     reading=$(printf '%s\n' "$from" | sed -nE 's/^(-?[0-9.]+) ?((degrees?|deg) )?((°)?[A-Za-z]+)$/\1 \4/p')
     number=${reading%% *}
     scale=$(scale_of "${reading#* }")
     case $number:$scale:$target in
+        *:"$converted":*) return 1 ;;
         ?*:K:[FC]) say "for a temperature, not a difference: qunits $number K to temp$target" ;;
         ?*:[FC]:[FC]) say "for a temperature, not a difference: qunits 'temp$scale($number)' to temp$target" ;;
         ?*:[FC]:K) say "for a temperature, not a difference: qunits 'temp$scale($number)' to $to" ;;
@@ -73,8 +90,8 @@ hint_at_temperature() {
 hint_at_column() {
     scale=$(scale_of "$from")
     target=$(scale_of "$to")
+    if is_temperature "$from"; then return; fi
     case $from:$scale:$target in
-        temp* | [Cc]elsius:* | [Ff]ahrenheit:* | °*) ;;
         *:[FC]:[FC]) say "for temperatures, not differences: temp$scale to temp$target" ;;
         *:[FC]:K) say "for temperatures, not differences: temp$scale to $to" ;;
         *:K:[FC]) say "for temperatures, not differences: $from to temp$target" ;;

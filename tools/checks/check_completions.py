@@ -10,6 +10,7 @@ skipped. The last line is `N passed, M failed, K skipped`.
 
 from __future__ import annotations
 
+import os
 import re
 import shutil
 import subprocess
@@ -18,7 +19,7 @@ import tempfile
 from dataclasses import dataclass
 from pathlib import Path
 
-from terminal import Terminal
+from terminal import Terminal, has_terminals
 
 ROOT = Path(__file__).resolve().parents[2]
 BASH_COMPLETION = Path("/usr/share/bash-completion/bash_completion")
@@ -84,6 +85,32 @@ NAMES = [
 ]
 
 
+# Parts of names, each with the quotes in which bash can hold it.
+SPECIALS = {
+    "`touch${IFS}pwned`": "\"'",
+    "$HOME": "\"'",
+    "'": '"',
+    '"': "\"'",
+    "\\": "\"'",
+    "!x": "'",
+    "&touch<pwned>?{a,b}": "\"'",
+    "%=:@_.,": "\"'",
+    "\xb5": "\"'",
+}
+# Parts of names that a terminal obeys instead of showing them, so that bash and fish do not complete these names.
+INVISIBLE = ["\x9b5n", "\u202e", "\u2066", "\u200f", "\u061c"]
+FILE_SPECIALS = [
+    *SPECIALS,
+    "two  blanks",
+    "\n`touch pwned`\n",
+    "\x01",
+    "\x1b[5n",
+    "\x7f",
+    "\x9b5n",
+    ";|*[x]#~()",
+]
+
+
 class Tally:
     """The numbers of cases that passed, failed and were skipped."""
 
@@ -138,6 +165,66 @@ def try_cases(tally: Tally, shell: Shell, install: Install, cases: list[tuple[st
         terminal.close()
 
 
+def special_names() -> dict[str, str]:
+    """A name for each special part, by the letters that it begins with."""
+    parts = [*SPECIALS, *INVISIBLE]
+    return {f"q{chr(ord('a') + at)}": f"q{chr(ord('a') + at)}{part}z" for at, part in enumerate(parts)}
+
+
+def make_specials(folder: Path) -> None:
+    """Writes a file with those names and one file for each special part of a file name; their values differ."""
+    folder.mkdir()
+    names = enumerate(special_names().values())
+    (folder / "names.units").write_text("m !\n" + "".join(f"{name} {1000 + at} m\n" for at, name in names))
+    for at, part in enumerate(FILE_SPECIALS):
+        (folder / f"{at:02}{part}z").write_text(f"m !\nhere {1000 + at} m\n")
+
+
+def try_lines(tally: Tally, shell: Shell, install: Install, lines: list[tuple[str, str, str]]) -> None:
+    """Types the keys before Tab and those after it; the output has to match the pattern."""
+    command = [word if word != ".rc" else str(Path(install.environment["HOME"]) / shell.startup) for word in shell.command]
+    terminal = Terminal(command, install.environment, install.folder)
+    before = sorted(os.listdir(install.folder))
+    try:
+        tally.count(terminal.shows("ready> "), f"{shell.name}: no prompt: {terminal.text()!r}")
+        for keys, more_keys, pattern in lines:
+            terminal.clear()
+            terminal.type(keys)
+            terminal.shows(re.escape(keys[-2:]))
+            terminal.type("\t")
+            if "unknown" not in pattern:
+                terminal.shows(f"(?s){keys[-2:]}.*z")
+            terminal.type(more_keys)
+            is_well = terminal.shows(f"(?s){pattern}.*ready> ")
+            tally.count(is_well, f"{shell.name}: {keys!r} and {more_keys!r} became {terminal.output!r}")
+            if not is_well:
+                terminal.type("\x03")
+        after = sorted(os.listdir(install.folder))
+        tally.count(before == after, f"{shell.name}: a command ran: {set(after) - set(before)}")
+    finally:
+        terminal.close()
+
+
+def special_lines(shell: Shell) -> list[tuple[str, str, str]]:
+    """Lines that complete each special name and each special file name. Of names that a quote of bash cannot hold, and
+    of those that no terminal shows, the letters stay as they are."""
+    lines = []
+    names = list(special_names())
+    for at, (letters, quotes) in enumerate(zip(names, SPECIALS.values())):
+        lines.append((f"units -1 -f names.units {letters}", "\r", rf"Definition: {1000 + at} m"))
+        for quote in "\"'":
+            is_held = quote in quotes or shell.name != "bash"
+            pattern = rf"Definition: {5000 + 5 * at} m" if is_held else f"unknown unit: {letters}\\b"
+            lines.append((f"units -1 -f names.units {quote}5 {letters}", "\r" if is_held else f"{quote}\r", pattern))
+    if shell.name != "zsh":
+        for letters in names[len(SPECIALS) :]:
+            lines.append((f"units -1 -f names.units {letters}", "\r", f"unknown unit: {letters}\\b"))
+    for at in range(len(FILE_SPECIALS)):
+        for option in ("-1 -f ", "-1 --file="):
+            lines.append((f"units {option}{at:02}", " here\r", rf"Definition: {1000 + at} m"))
+    return lines
+
+
 def run_install(environment: dict[str, str], *words: str) -> None:
     command = [str(ROOT / "tools/install.sh"), *words]
     process = subprocess.run(command, env=environment, capture_output=True, text=True)
@@ -165,12 +252,16 @@ def try_user(tally: Tally, room: Path) -> None:
     make_lab(room / "lab", home)
     run_install(environment, "--setup")
     user = Install("for a user", "units", environment, room / "lab")
+    make_specials(room / "specials")
+    specials = Install("for a user", "units", environment, room / "specials")
     for shell in SHELLS:
         cases = OPTIONS + NAMES
         if is_installed(shell):
             try_cases(tally, shell, user, cases)
+            try_lines(tally, shell, specials, special_lines(shell))
         else:
-            tally.skip(len(cases) + 1, f"{shell.name} or its bash-completion is not installed")
+            number = len(cases) + len(special_lines(shell)) + 3
+            tally.skip(number, f"{shell.name} or its bash-completion is not installed")
 
 
 def try_system(tally: Tally, room: Path, name: str) -> None:
@@ -210,6 +301,10 @@ def try_claim(tally: Tally, room: Path) -> None:
 
 def main() -> None:
     tally = Tally()
+    if not has_terminals():
+        print("check_completions: everything is skipped, since the system has no pseudo-terminal")
+        print("0 passed, 0 failed, 1 skipped")
+        return
     SHELLS[:] = [shell for shell in SHELLS if shell.name in sys.argv[1:] or not sys.argv[1:]]
     room = Path(tempfile.mkdtemp(prefix="completions-"))
     try:

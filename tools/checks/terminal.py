@@ -16,7 +16,17 @@ from pathlib import Path
 ESCAPES = re.compile(
     r"\x1b(\[[0-9;?>=]*[@a-zA-Z]|\][^\x07\x1b]*(\x07|\x1b\\)|[()][A-Z0-9]|[=>78cM])|[\r\x07\x0e\x0f]"
 )
-SECONDS = 60  # limit for one answer of a shell, which may be slow while proofs run
+SECONDS = 300  # limit for one answer of a shell, which only ends a check that hangs
+
+
+def has_terminals() -> bool:
+    """Whether the system has a pseudo-terminal. A bare root without /dev/pts has none."""
+    try:
+        for descriptor in pty.openpty():
+            os.close(descriptor)
+    except OSError:
+        return False
+    return True
 
 
 class Terminal:
@@ -54,6 +64,8 @@ class Terminal:
         while time.monotonic() < end:
             process, status = os.waitpid(self.process, os.WNOHANG)
             if process:
+                while self.read_more(1):  # until the end, which is there unless another process has the terminal
+                    pass
                 os.close(self.descriptor)
                 return os.waitstatus_to_exitcode(status)
             self.read_more(0.05)
