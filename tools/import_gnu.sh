@@ -12,6 +12,7 @@
 #
 # Exit status: 0 if the copy was written, 1 if a file cannot be read or written, 2 for wrong arguments.
 set -u
+# SPDX-License-Identifier: MIT OR Apache-2.0
 export LC_ALL=C
 mark='# A copy of GNU units definitions, changed by import_gnu.sh so that exact units can read it.'
 usual_places=(
@@ -80,10 +81,23 @@ function refuse(reason) {
     exit status = 1
 }
 
+# is_readable FILE: whether it is a regular file that `units` reads too. A device may have no end, and a pipe may wait.
+function is_readable(file) {
+    gsub(/'/, "'\\''", file)
+    return system("[ -f '" file "' ] && [ \"$(wc -c < '" file "')\" -le 16777216 ]") == 0
+}
+
+# on_one_line TEXT: a path for a line of the heading.
+function on_one_line(text) {
+    gsub(/\n/, "\\x0a", text)
+    return text
+}
+
 # read_file FILE: appends the lines of the file and of its includes to `lines`.
 function read_file(file,    text, length_of_text, i, got, name) {
     if (file in reading) refuse(file " includes itself")
     reading[file]
+    if (!is_readable(file)) refuse("no regular file of at most 16 MiB: " file)
     while ((got = (getline text[length_of_text + 1] < file)) > 0) length_of_text++
     close(file)
     if (got < 0) refuse("cannot read " file)
@@ -162,11 +176,11 @@ function change_lines(    i, comment, goes_on, was_going_on) {
 
 function print_heading(    i, name) {
     print ENVIRON["MARK"]
-    print "# It was made from " first ". The licence of that file, which is stated below, holds for this copy."
+    print "# It was made from " on_one_line(first) ". The licence of that file, which is stated below, holds for this copy."
     print "# It differs from the original in this:"
     print "# - this heading"
     if (changes["byte order mark"]) print "# - the byte order mark at the start is removed"
-    for (i = 1; i <= includes; i++) print "# - the lines of " included[i] " replace the !include line"
+    for (i = 1; i <= includes; i++) print "# - the lines of " on_one_line(included[i]) " replace the !include line"
     if (changes["number"]) print "# - " changes["number"] " bodies such as `/s` and `per s` begin with the number 1"
     if (changes["pi"]) print "# - pi is 21053343141|6701487259, which differs from pi by 8.4e-23 of its value"
     if (changes["range"]) print "# - the range up to 2^128 is dropped"
@@ -209,7 +223,7 @@ if [ "$#" -gt 2 ]; then fail 'at most two files are taken; see import_gnu.sh --h
 file=${1:-$(installed_file)} || fail 'GNU units is not installed in a usual place: name its definitions.units'
 to=${2:-gnu.units}
 if [ ! -f "$file" ] || [ ! -r "$file" ]; then fail "cannot read $file"; fi
-file=$(readlink -f "$file")
+file=$(readlink -f "$file" && echo /) && file=${file%??} # a name may end in line feeds
 if [ "$to" = - ]; then
     readable_copy "$file"
     exit
@@ -217,9 +231,9 @@ fi
 if [ -e "$to" ] && ! { [ -f "$to" ] && IFS= read -r line < "$to" && [ "$line" = "$mark" ]; }; then
     fail "$to exists and is not a copy that this script made; name another file"
 fi
-new=$(mktemp "$to.XXXXXX") || fail "cannot write a file next to $to"
-trap 'rm -f "$new"' EXIT
+new=$(mktemp -- "$to.XXXXXX") || fail "cannot write a file next to $to"
+trap 'rm -f -- "$new"' EXIT
 readable_copy "$file" > "$new" || fail "nothing was written to $to"
-if ! chmod 644 "$new" || ! mv "$new" "$to"; then fail "cannot write $to"; fi
+if ! chmod 644 -- "$new" || ! mv -- "$new" "$to"; then fail "cannot write $to"; fi
 trap - EXIT
-echo "$to"
+printf '%s\n' "$to"

@@ -5,7 +5,7 @@
 #
 #     tools/checks/check_import_gnu.sh
 #
-# The last line is `N passed, M failed, K skipped`, and the status is 0 exactly if nothing failed.
+# The last line is `N passed, M failed, K skipped`, and the status is 0 if nothing failed and else 1.
 set -u
 script=$(readlink -f "${BASH_SOURCE[0]}") || exit
 root=${script%/*/*/*}
@@ -74,6 +74,21 @@ expected_lines() {
     printf '\302\265s \302\265 second\n\342\205\233s \342\205\233 second\n'
 }
 
+check_line_feeds() {
+    local name=$'a\nb !\nc.units'
+    mkdir line_feed && cd line_feed || return
+    printf 'm !\n!include d.units\n' > "$name"
+    echo 'e 2 m' > d.units
+    echo 'wrong !' > other.units
+    printf 'm !\n' > $'other.units\n'
+    expect 'a line feed in the name of the file' 0 "$(status_of "$import" "$name" copy.units)"
+    expect '.. makes no line' $'m !\ne 2 m' "$(grep -v '^#' copy.units)"
+    expect '.. is shown' 1 "$(grep -cF 'made from '"$PWD"'/a\x0ab !\x0ac.units.' copy.units)"
+    expect 'a line feed at the end of a name' 0 "$(status_of "$import" $'other.units\n' copy.units)"
+    expect '.. is part of the name' 'm !' "$(grep -v '^#' copy.units)"
+    cd .. || exit
+}
+
 check_refusals() {
     echo 'my own definitions' > own.units
     expect 'a file of another origin is kept' 1 "$(status_of "$import" small.units own.units)"
@@ -85,7 +100,18 @@ check_refusals() {
     expect 'an absent include' 1 "$(status_of "$import" lost.units new.units)"
     expect 'leaves no copy' 'no' "$([ -e new.units ] && echo yes || echo no)"
     printf 'm !\n!include round.units\n' > round.units
-    expect 'a file that includes itself' 1 "$(status_of timeout 10 "$import" round.units new.units)"
+    expect 'a file that includes itself' 1 "$(status_of timeout 600 "$import" round.units new.units)"
+    mkfifo pipe
+    : > 'long.units' && truncate -s 16777217 long.units
+    for name in /dev/zero pipe long.units /dev/stdin . "it's\`touch\${IFS}ran\`"; do
+        printf 'm !\n!include %s\n' "$name" > strange.units
+        expect "an include of $name" 1 "$(ulimit -v 1000000; status_of timeout 600 "$import" strange.units new.units)"
+        case $name in /*) path=$name ;; *) path=$PWD/$name ;; esac
+        expect 'is named' "import_gnu: no regular file of at most 16 MiB: $path" "$(head -n 1 output)"
+        expect 'leaves no copy' no "$([ -e new.units ] && echo yes || echo no)"
+    done
+    expect 'no command ran' no "$([ -e ran ] && echo yes || echo no)"
+    expect 'a pipe' 1 "$(status_of timeout 600 "$import" pipe new.units)"
     expect 'three words' 2 "$(status_of "$import" a b c)"
     expect 'an unknown option' 2 "$(status_of "$import" --nothing)"
     expect 'help' 0 "$(status_of "$import" --help)"
@@ -111,6 +137,7 @@ check_gnu_file() {
 }
 
 check_small_file
+check_line_feeds
 check_refusals
 if [ -r "$gnu_file" ] && command -v units > /dev/null; then
     check_gnu_file
