@@ -1,12 +1,13 @@
 #!/usr/bin/env python3
 """Measures how time and memory of the program grow with its input.
 
-    bench/scaling.sh [--program PROGRAM] [ROW..]
+    bench/scaling.sh [--program PROGRAM] [--static PROGRAM] [ROW..]
 
 Each row is run at three sizes in turns, seven times each. A line for each size has the size, the least processor time
 and the least peak memory; then a line has the exponents between the larger two: 1 is linear, 2 quadratic. The cost of
 the smallest input is subtracted, so that the start of the program does not hide the growth. A row with an easier input
-has the ratio of the times, which may be at most 2, and a row with a bound on its memory has both. If GNU units is
+has the ratio of the times, which may be at most 2, and a row with a bound on its memory has both. The static program,
+which users run, may take at most 1.25 times the memory of the measured one for the largest size. If GNU units is
 installed and has the operation, its time for the largest size follows. A row ends in `ok` or `over`, according to its
 bounds. If the time of a row grows faster than its bound and valgrind is installed, the exponent of the instructions
 follows: time also grows when data leaves a cache, and with what else the machine does. The last row counts the
@@ -33,6 +34,7 @@ from scaling_rows import ROWS, Row, Run
 
 ROOT = Path(__file__).resolve().parent.parent
 MOST_TIMES = 2
+MOST_OF_DYNAMIC = 1.25
 REPEATS = 7
 MOST_INSTRUCTIONS = 450_000
 START = "start of a conversion"
@@ -136,8 +138,14 @@ def time_of_gnu(row: Row, folder: Path) -> str:
     return f", GNU units {end.ru_utime + end.ru_stime - begin.ru_utime - begin.ru_stime:.3f} s"
 
 
-def measure(program: str, row: Row, folder: Path) -> bool:
+def static_memory(static: str, row: Row, dynamic: Cost, folder: Path) -> float:
+    """How many times the memory of the dynamic program the static one takes for the largest size."""
+    return costs_of(static, row.make, row.sizes[2:], folder)[0].bytes / dynamic.bytes
+
+
+def measure(program: str, static: str, row: Row, folder: Path) -> bool:
     """Prints the lines of a row, and returns whether it is within its bounds."""
+    program = static if row.is_static else program
     if row.start is None:
         bases = costs_of(program, row.make, [row.base], folder) * len(row.sizes)
     else:
@@ -164,18 +172,22 @@ def measure(program: str, row: Row, folder: Path) -> bool:
     print(f"{row.name}:")
     for size, cost in zip(row.sizes, costs):
         print(f"  {size:>8,}  {cost.seconds:8.3f} s  {cost.bytes / 1e6:8.1f} MB")
+    if not row.is_static:
+        times = static_memory(static, row, costs[2], folder)
+        is_within = is_within and times <= MOST_OF_DYNAMIC
+        comparison += f", static program {times:.2f} times the memory"
     comparison += time_of_gnu(row, folder)
     verdict = "ok" if is_within else "over"
     print(f"  exponents: time {time:.2f}, memory {memory:.2f}{comparison}: {verdict}", flush=True)
     return is_within
 
 
-def measure_start(program: str, folder: Path) -> bool:
+def measure_start(program: str, static: str, folder: Path) -> bool:
     """Prints the instructions of a conversion over the built-in definitions in an environment of usual size. The bound
     is for the static program, which users run: the loader of a dynamic one takes a third of it."""
     variables = {f"VARIABLE_{i}": "a value of usual length" for i in range(35)}
     run = Run(("10 m", "ft"), variables=variables)
-    count, other = (instructions_of(name, run, folder) for name in (built_program("--static"), program))
+    count, other = (instructions_of(name, run, folder) for name in (static, program))
     is_within = count <= MOST_INSTRUCTIONS
     verdict = "ok" if is_within else "over"
     counts = f"{count:,} instructions, at most {MOST_INSTRUCTIONS:,}; {other:,} by the measured program"
@@ -192,17 +204,18 @@ def main() -> int:
     parser = argparse.ArgumentParser(description=__doc__, formatter_class=argparse.RawDescriptionHelpFormatter)
     parser.add_argument("rows", nargs="*", metavar="ROW", help="a part of the name of a row; without it, all rows")
     parser.add_argument("--program", help="the program to measure, instead of the built one")
+    parser.add_argument("--static", help="the static program to compare, instead of the built one")
     arguments = parser.parse_args()
-    program = arguments.program or built_program()
+    program, static = arguments.program or built_program(), arguments.static or built_program("--static")
     resource.setrlimit(resource.RLIMIT_STACK, (8 << 20, resource.RLIM_INFINITY))
 
     def is_asked_for(name: str) -> bool:
         return not arguments.rows or any(part in name for part in arguments.rows)
 
     with tempfile.TemporaryDirectory() as folder:
-        results = [measure(program, row, Path(folder)) for row in ROWS if is_asked_for(row.name)]
+        results = [measure(program, static, row, Path(folder)) for row in ROWS if is_asked_for(row.name)]
         if is_asked_for(START) and shutil.which("valgrind"):
-            results.append(measure_start(program, Path(folder)))
+            results.append(measure_start(program, static, Path(folder)))
     print(f"{sum(results)} of {len(results)} rows are within their bounds")
     return 0 if all(results) else 1
 

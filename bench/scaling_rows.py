@@ -6,9 +6,13 @@ import math
 import random
 from collections.abc import Callable
 from dataclasses import dataclass, field
+from pathlib import Path
 from string import ascii_lowercase
 
 LINEAR = 1.2
+# A switch of the settings and a load pass over the whole deck.
+PASSES = 2.5
+FOUR_LINES = Path(__file__).resolve().parent.parent / "examples/first.units"
 
 
 @dataclass(frozen=True)
@@ -26,8 +30,9 @@ class Row:
     """A row: a function that makes the run of a size, the sizes, and the largest exponents allowed.
 
     The cost of a run of the size `base` is subtracted, or that of `start` for the same size if the start grows too. If
-    there is an easier input, the largest size may take at most twice its time, less that of `easier_start`. `most_bytes`
-    is the most memory that a size may take beyond the subtracted run. `in_gnu` says that GNU units accepts the same run.
+    there is an easier input, the largest size may take at most twice its time, less that of `easier_start`.
+    `most_bytes` is the most memory that a size may take beyond the subtracted run. `in_gnu` says that GNU units accepts
+    the same run, and `is_static` that the static program is measured.
     """
 
     name: str
@@ -41,6 +46,7 @@ class Row:
     easier_start: Callable[[int], Run] | None = None
     most_bytes: Callable[[int], float] | None = None
     in_gnu: bool = False
+    is_static: bool = False
 
 
 def lines(*texts: str) -> str:
@@ -130,6 +136,17 @@ def environment(count: int) -> Run:
     return Run(("m",), None, "", {f"V{i}": "x" for i in range(count)})
 
 
+def column_of_list(count: int) -> Run:
+    """Rows that make and free blocks of different sizes."""
+    return Run(("--column", "1", "ft" + "*1" * 1600, "ft;in"), None, lines(*map(str, range(count))))
+
+
+def edits_of_deck(count: int, *edits: str) -> Run:
+    """As many edits as the deck has lines."""
+    deck = lines("m !", *many("v_{i}a {i} m", count, start=1))
+    return session(*(edit.format(i=i) for i in range(count) for edit in edits), definitions=deck)
+
+
 def watches(count: int) -> Run:
     return session(*many(":watch {i} ft ; m", count, start=1), *many(":define w_{i}a 2 s", 200))
 
@@ -144,33 +161,40 @@ def product(count: int) -> Run:
     return Run(("w",), deck)
 
 
-# The hashes of the program under the fixed seed.
+# The hash of a name in the tables of the program under the fixed seed.
 HASH_START = 0x243F6A8885A308D3
 HASH_MULTIPLIER = 0x9E3779B97F4A7C15
 WORD = (1 << 64) - 1
 
 
-def hash_of_eight_bytes(number: int) -> int:
-    """The hash of a name of eight bytes, or of a hash as the key of a table."""
-    product = (HASH_START ^ number) * (HASH_MULTIPLIER ^ 16)
+def hash_after(state: int, number: int, length: int) -> int:
+    """The state after a number of `length` bytes."""
+    product = (state ^ number) * (HASH_MULTIPLIER ^ 2 * length)
     return (product & WORD) ^ (product >> 64)
 
 
 def colliding_names(count: int) -> list[str]:
-    """Names with the same tag, by which a table distinguishes the hashes of a group. All searches begin in the first
+    """Names with the same tag, by which a table distinguishes the names of a group. All searches begin in the first
     quarter of the groups of a table of this size."""
     groups = 1 << max(2, math.ceil(math.log2(count / 9)))
     mask = 0xFF << 24 | groups - groups // 4
+    # A single byte is hashed as three equal ones.
+    numbers = {letter: ord(letter) * 0x010101 for letter in ascii_lowercase}
+    multiplier = HASH_MULTIPLIER ^ 2
+    start = hash_after(HASH_START, 8, 8)
     choices = random.Random(count)
     names: dict[str, None] = {}
     while len(names) < count:
         front = "".join(choices.choices(ascii_lowercase, k=6))
-        for before in ascii_lowercase:
-            for letter in ascii_lowercase:
-                name = front + before + letter
-                key = hash_of_eight_bytes(hash_of_eight_bytes(int.from_bytes(name.encode(), "little")))
-                if (key ^ key >> 32) & mask == 1 << 24:
-                    names[name] = None
+        state = start
+        for letter in front:
+            state = hash_after(state, numbers[letter], 1)
+        for before, number in numbers.items():
+            next_state = hash_after(state, number, 1)
+            for letter, last in numbers.items():
+                product = (next_state ^ last) * multiplier
+                if (product ^ product >> 32 ^ product >> 64 ^ product >> 96) & mask == 1 << 24:
+                    names[front + before + letter] = None
     return list(names)[:count]
 
 
@@ -252,6 +276,21 @@ ROWS = [
     Row("the same locale again", repeated_locale, (75000, 150000, 300000), most_bytes=lambda n: 48 * n),
     # The toolchain's call walks from the first variable each time (docs/DECISIONS.md).
     Row("variables of the environment", environment, (8000, 16000, 32000), time=2.2),
+    Row("variables of the environment, static program", environment, (8000, 16000, 32000), is_static=True),
+    Row("a column with a list", column_of_list, (250, 500, 1000)),
+    Row(
+        "loads over a deck of that size",
+        lambda n: edits_of_deck(n, f":load {FOUR_LINES}"),
+        (1000, 2000, 4000),
+        time=PASSES,
+    ),
+    Row(
+        "locales and undos over a deck of that size",
+        lambda n: edits_of_deck(n, ":locale en_GB", ":undo"),
+        (1000, 2000, 4000),
+        time=PASSES,
+    ),
+    Row("sets over a deck of that size", lambda n: edits_of_deck(n, ":set Y {i}"), (1000, 2000, 4000), time=PASSES),
     Row("200 edits beside watches", watches, (250, 500, 1000)),
     Row("a search in long names", search, (4000, 8000, 16000)),
     Row("a product of distinct primitives", product, (4000, 8000, 16000), in_gnu=True),

@@ -1,5 +1,5 @@
 #!/usr/bin/env bash
-# Tests the released static program, which is linked from the same object as the dynamic one: the transcripts and the
+# Tests the released static program `units`, which is linked from the same object as the dynamic one: the transcripts and the
 # statuses in a root folder that has musl and busybox instead of this system's libraries, or directly if there can be no
 # such folder; runs in which the system refuses memory; and the code that tools/release/static adds.
 #   tools/checks/check_static.sh [PROGRAM [OBJECT]]    tests this static program, and its object, instead of the
@@ -11,6 +11,7 @@ set -u
 script=$(readlink -f "${BASH_SOURCE[0]}") || exit
 root=${script%/*/*/*}
 static=$root/release/units-x86_64-linux-static
+dynamic=$root/release/units-x86_64-linux
 object=$root/crates/units/out/units.o
 passed=0 failed=0 skipped=0
 
@@ -72,8 +73,52 @@ check_parts() {
     gcc -g -O1 -fsanitize=address,undefined "$wrap" -o "$folder/heap" "$test/heap_test.c" "$parts/heap.c" \
         && expect 'the heap' "$folder/heap" "$RANDOM" 200000
     gcc -O2 -fno-builtin -fno-tree-loop-distribute-patterns -Dmemcpy=static_memcpy -Dmemmove=static_memmove \
-        -Dmemset=static_memset -D__wrap_main=words_main -D__real_main=main -c "$parts/musl.c" -o "$folder/musl.o" \
-        && gcc -O1 -o "$folder/copies" "$test/copies_test.c" "$folder/musl.o" && expect 'the copies' "$folder/copies"
+        -Dmemset=static_memset -D__wrap_main=words_main -D__real_main=main -Drattle_env_at=static_env_at \
+        -c "$parts/musl.c" -o "$folder/musl.o" \
+        && gcc -O1 -o "$folder/copies" "$test/copies_test.c" "$folder/musl.o" && expect 'the copies' "$folder/copies" \
+        && gcc -O1 -o "$folder/variables" "$test/variables_test.c" "$folder/musl.o" \
+        && expect 'the variables' "$folder/variables" "$RANDOM"
+}
+
+# is_hardened: whether the program is position-independent and, while it runs, can write to its data alone, not to the
+# tables that its start fills.
+is_hardened() {
+    local writable
+    [ "$(od -An -tu2 -j16 -N2 "$static" | tr -d ' ')" = 3 ] || { echo 'not position-independent'; return 1; }
+    coproc "$static" -q
+    printf '1 ft\nin\n' >&"${COPROC[1]}"
+    read -r _ <&"${COPROC[0]}"
+    writable=$(grep -c "w.*$static" "/proc/$COPROC_PID/maps")
+    echo "$writable writable parts of the file"
+    [ "$writable" = 1 ]
+}
+
+# peak PROGRAM WORD..: prints the peak memory of a run over $folder/input, in KiB.
+peak() { command time -q -f %M -o "$folder/peak" "$@" < "$folder/input" > /dev/null 2>&1 && cat "$folder/peak"; }
+
+# takes_memory_as_dynamic WORD..: whether the program takes at most 1.25 times the memory of the dynamic one.
+takes_memory_as_dynamic() {
+    local ours theirs
+    ours=$(peak "$static" "$@") && theirs=$(peak "$dynamic" "$@") || return
+    echo "$ours KiB, and $theirs by the dynamic program"
+    [ $((ours * 4)) -le $((theirs * 5)) ]
+}
+
+# Long blocks that are made and freed in turn, and edits of a deck.
+check_memory() {
+    if ! has time; then skip 'the memory of both programs, which needs GNU time'; return; fi
+    local deck=$folder/deck.units long_from
+    { echo 'm !'; seq -f 'v_%ga 2 m' 2000; } > "$deck"
+    echo 'w 2 m' > "$folder/line.units"
+    long_from=ft$(printf '*1%.0s' {1..1600})
+    seq 1000 > "$folder/input"
+    expect 'the memory of a column with a list' takes_memory_as_dynamic --column 1 "$long_from" 'ft;in'
+    seq -f ':set Y %g' 2000 > "$folder/input"
+    expect 'the memory of settings' takes_memory_as_dynamic -q -f "$deck"
+    yes ":load $folder/line.units" | head -n 500 > "$folder/input"
+    expect 'the memory of loads' takes_memory_as_dynamic -q -f "$deck"
+    yes $':locale en_GB\n:undo' | head -n 2000 > "$folder/input"
+    expect 'the memory of locales' takes_memory_as_dynamic -q -f "$deck"
 }
 
 # refuse_mappings FILE TO: refuses each request for memory of a conversion with this file, alone and with all later
@@ -173,11 +218,23 @@ check_runs() {
     fi
 }
 
-sum_of() { sha256sum < "$1" | cut -d ' ' -f 1; }
+# is_released FILE WORD: whether it is the file of this release whose checksum is after the word in MADE_FROM.
+is_released() {
+    [ -x "$1" ] && [ "$(sha256sum < "$1" | cut -d ' ' -f 1)" = "$(sed -n "s/^$2 //p" "$root/release/MADE_FROM")" ]
+}
+
+check_why() {
+    local why=$root/release/units-why-x86_64-linux-static
+    if ! is_released "$why" why; then skip 'units-why: there is no static one of this release'; return; fi
+    printf '#!/bin/sh\ncase %s in units) echo %q ;; units_why) echo %q ;; *) exit 126 ;; esac\n' "\$1" "$static" "$why" \
+        > "$folder/checks/tools/built.sh"
+    "$folder/checks/tools/checks/transcripts.py" "$folder"/checks/tests/{why,lint}.t > "$folder/output" 2>&1 < /dev/null
+    add_last_line
+}
 
 if [ $# -gt 0 ]; then
     static=$(readlink -f "$1") object=$(readlink -f "${2-/nonexistent}")
-elif ! [ -x "$static" ] || [ "$(sum_of "$static")" != "$(sed -n 's/^static //p' "$root/release/MADE_FROM")" ]; then
+elif ! is_released "$static" static; then
     skip 'there is no static program of this release: run tools/release/release.sh after bin/test'
     end
 fi
@@ -185,6 +242,9 @@ folder=$(mktemp -d) || exit
 trap 'rm -rf "$folder"' EXIT
 copy_checks
 check_parts
+expect 'the hardening' is_hardened
+check_memory
 check_refusals
 check_runs
+if [ $# = 0 ]; then check_why; fi
 end

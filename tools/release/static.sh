@@ -28,7 +28,7 @@ here=${script%.sh}
 
 libc=/usr/lib/x86_64-linux-musl
 headers=/usr/include/x86_64-linux-musl
-parts=("$libc"/crt1.o "$libc"/crti.o "$libc"/libc.a "$libc"/crtn.o)
+parts=("$libc"/rcrt1.o "$libc"/crti.o "$libc"/libc.a "$libc"/crtn.o)
 
 need_parts() {
     local part
@@ -49,7 +49,7 @@ print_parts() {
 # compile SOURCE TO
 compile() {
     "$kit/toolchain/bin/clang" --target=x86_64-unknown-linux-musl --no-default-config -nostdinc -isystem "$headers" \
-        -O2 -march=x86-64 -fno-pic -fno-builtin -fno-stack-protector -fno-asynchronous-unwind-tables \
+        -O2 -march=x86-64 -fPIE -fno-builtin -fno-stack-protector -fno-asynchronous-unwind-tables \
         -Wall -Wextra -Werror -c -x c "$1" -o "$2"
 }
 
@@ -67,9 +67,9 @@ link() {
     fi
     compile "$here/heap.c" "$folder/heap.o"
     compile "$here/musl.c" "$folder/musl.o"
-    "$kit/toolchain/bin/ld.lld" -m elf_x86_64 -static --wrap=main --gc-sections --build-id=none -z relro -z now \
+    "$kit/toolchain/bin/ld.lld" -m elf_x86_64 -pie --no-dynamic-linker -z text --wrap=main --gc-sections --build-id=none -z relro -z now \
         -z noexecstack --eh-frame-hdr --threads=1 --symbol-ordering-file="$here/order.txt" --no-warn-symbol-ordering \
-        -o "$to" "$libc/crt1.o" "$libc/crti.o" "$object" "$@" \
+        -o "$to" "$libc/rcrt1.o" "$libc/crti.o" "$object" "$@" \
         "$folder/musl.o" "$folder/heap.o" "$kit/c/libos_c.a" "$kit/c/liblibc_c.a" \
         --start-group "$kit/toolchain/lib/libgcc.a" "$libc/libc.a" --end-group "$libc/crtn.o"
 }

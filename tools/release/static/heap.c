@@ -1,14 +1,16 @@
 // The heap of the static program, instead of the toolchain's three functions that call malloc. It is made for a program
 // that runs for milliseconds and keeps most of its blocks: a block is a freed one of its class or the next part of a
 // chunk, whose pages are mapped in one call. Freed blocks are not joined, but the sizes in a class differ by at most an
-// eighth, and a freed block above 1 KiB is used as a chunk before more memory is requested. A block above 128 KiB is a
-// mapping of its own, which grows without a copy and is unmapped when it is freed. The first block of 256 KiB, into
-// which a program reads a long definition file, makes a huge page the chunk: the kernel maps it faster than the small
-// pages that the definitions would fill. The next block above 128 KiB, which has the lines of the definitions, begins
-// near the end of that page and can grow past it in place. In long sessions the program takes at most a tenth more
-// memory than with malloc, besides the rest of that page. Programs with threads cannot use this heap:
+// eighth, and the next chunk is the smallest freed block above 1 KiB that suffices, so that long blocks stay whole for
+// long requests. A block above 128 KiB has pages of its own, which grow without a copy. Up to 4 MiB of such pages are
+// kept when they are freed, joined and divided as needed, so that a program which makes and frees a long block over and
+// over calls the system once. No memory is requested while pages are kept. The first block of 256 KiB, into which a
+// program reads a long definition file, makes a huge page the chunk: the kernel maps it faster than the small pages
+// that the definitions would fill. The next block above 128 KiB, which has the lines of the definitions, begins near
+// the end of that page and can grow past it in place. Programs with threads cannot use this heap:
 // tools/release/static.sh refuses them.
 #define _GNU_SOURCE
+#include <errno.h>
 #include <stdbool.h>
 #include <stddef.h>
 #include <stdint.h>
@@ -32,7 +34,7 @@ enum {
     UNIT = 16,
     HEADER = offsetof(struct block, next),
     SMALL = 1024,       // up to this size, each multiple of a unit is a class
-    LARGE = 128 * 1024, // above this size, a block is a mapping
+    LARGE = 128 * 1024, // above this size, a block has pages of its own
     STEPS = 8,          // classes for each doubling between the two
     CLASSES = SMALL / UNIT + 7 * STEPS + 1,
     PAGE = 4096,
@@ -44,9 +46,20 @@ enum {
     GROWING_INSIDE = 272 * 1024, // the end of the huge page that is left to the growing block
     GROWING_ROOM = 544 * 1024,   // the room of that block, with the pages after the huge page
     POPULATE_WRITE = 23, // an advice of Linux 5.14, which musl's headers lack
+    MOST_KEPT = 16,      // ranges of pages
+    MOST_KEPT_BYTES = 4 * 1024 * 1024,
+};
+
+// Pages that were freed and that the system has not got back.
+struct pages {
+    char *at;
+    size_t size;
 };
 
 static struct block *freed[CLASSES];
+static struct pages kept[MOST_KEPT]; // no two of them are neighbours
+static unsigned kept_count;
+static size_t kept_bytes;
 static char *unused, *end_of_chunk; // the rest of the chunk
 static size_t in_chunks;            // the bytes of all chunks
 static char *huge_page;             // NULL if the program has none
@@ -58,11 +71,12 @@ static size_t rounded(size_t size, size_t unit) { return (size + unit - 1) & -un
 // An eighth of the largest power of two that is at most the size.
 static size_t step_from(size_t size) { return ((size_t)1 << (63 - __builtin_clzl(size))) / STEPS; }
 
-// The size of a block for a number of bytes: that of a class, or of whole pages.
+// The size of a block for a number of bytes: that of a class, or of whole pages. If it is no size at all, the system
+// refuses what is returned.
 static size_t block_size(size_t bytes) {
-    size_t size = bytes + HEADER;
-    if (size <= SMALL) return rounded(size, UNIT);
-    return size <= LARGE ? rounded(size, step_from(size - 1)) : rounded(bytes + UNIT, PAGE);
+    if (bytes <= SMALL - HEADER) return rounded(bytes + HEADER, UNIT);
+    if (bytes <= LARGE - HEADER) return rounded(bytes + HEADER, step_from(bytes + HEADER - 1));
+    return bytes <= PTRDIFF_MAX - PAGE ? rounded(bytes + UNIT, PAGE) : (size_t)-PAGE;
 }
 
 // The class of a size that block_size returns, up to LARGE.
@@ -103,16 +117,77 @@ static char *new_pages(size_t size) {
     return mmap(NULL, size, PROT_READ | PROT_WRITE, MAP_PRIVATE | MAP_ANONYMOUS | at_once, -1, 0);
 }
 
+static void remove_kept(unsigned i) {
+    kept_bytes -= kept[i].size;
+    kept[i] = kept[--kept_count];
+}
+
+static void return_kept(unsigned i) {
+    munmap(kept[i].at, kept[i].size);
+    remove_kept(i);
+}
+
+// Keeps pages, joined with their neighbours. Returns others, or these, to the system if they are too many.
+static void free_pages(char *at, size_t size) {
+    for (unsigned i = 0; i < kept_count;) {
+        bool is_before = kept[i].at + kept[i].size == at, is_after = at + size == kept[i].at;
+        if (is_before) at = kept[i].at;
+        if (is_before || is_after) size += kept[i].size, remove_kept(i);
+        else i++;
+    }
+    if (size > MOST_KEPT_BYTES) {
+        munmap(at, size);
+        return;
+    }
+    while (kept_count == MOST_KEPT || kept_bytes + size > MOST_KEPT_BYTES) return_kept(0);
+    kept[kept_count++] = (struct pages){at, size};
+    kept_bytes += size;
+}
+
+static char *first_part(unsigned i, size_t size) {
+    char *at = kept[i].at;
+    kept[i].at += size;
+    kept[i].size -= size;
+    kept_bytes -= size;
+    if (kept[i].size == 0) remove_kept(i);
+    return at;
+}
+
+// The place of the smallest kept pages that suffice, MOST_KEPT if there are none.
+static unsigned best_kept(size_t size) {
+    unsigned best = MOST_KEPT;
+    for (unsigned i = 0; i < kept_count; i++) {
+        if (kept[i].size >= size && (best == MOST_KEPT || kept[i].size < kept[best].size)) best = i;
+    }
+    return best;
+}
+
+// Kept pages, or new memory.
+static char *take_pages(size_t size) {
+    unsigned best = best_kept(size);
+    if (best != MOST_KEPT) return first_part(best, size);
+    while (kept_count > 0) return_kept(0);
+    return new_pages(size);
+}
+
+// Extends pages that end here, if the pages after them are kept.
+static bool extend(const char *end, size_t by) {
+    for (unsigned i = 0; i < kept_count; i++) {
+        if (kept[i].at == end && kept[i].size >= by) return first_part(i, by);
+    }
+    return false;
+}
+
 static void use_as_chunk(char *memory, size_t length) {
     in_chunks += length;
     unused = memory + UNIT - HEADER;
     end_of_chunk = memory + length;
 }
 
-// Begins a chunk with room for a block: a freed block, or new memory.
+// Begins a chunk with room for a block: the smallest freed block that suffices, or pages.
 static bool begin_chunk(size_t size) {
     leave_chunk();
-    for (size_t class = CLASSES - 1; class > SMALL / UNIT && class >= class_of(size); class--) {
+    for (size_t class = size <= SMALL ? SMALL / UNIT + 1 : class_of(size); class < CLASSES; class++) {
         struct block *block = freed[class];
         if (block == NULL) continue;
         freed[class] = block->next;
@@ -124,7 +199,7 @@ static bool begin_chunk(size_t size) {
     if (length < FIRST_CHUNK) length = FIRST_CHUNK;
     if (length > LONGEST_CHUNK) length = LONGEST_CHUNK;
     if (length < size + UNIT) length = rounded(size + UNIT, PAGE);
-    char *chunk = new_pages(length);
+    char *chunk = take_pages(length);
     if (chunk == MAP_FAILED) return false;
     use_as_chunk(chunk, length);
     return true;
@@ -147,7 +222,7 @@ static void begin_huge_page(void) {
     room_to_grow = page + HUGE_PAGE - GROWING_INSIDE;
 }
 
-// Whether a block above LARGE is a part of the huge page, and not a mapping of its own.
+// Whether a block above LARGE is a part of the huge page, without pages of its own.
 static bool is_in_huge_page(const struct block *block) {
     return huge_page != NULL && (uintptr_t)block - (uintptr_t)huge_page < HUGE_PAGE;
 }
@@ -162,7 +237,7 @@ static struct allocation some(struct block *block, size_t size) {
     return (struct allocation){true, &block->next};
 }
 
-static struct allocation mapping(char *memory, size_t size) {
+static struct allocation block_of_pages(char *memory, size_t size) {
     return memory == MAP_FAILED ? none() : some((struct block *)(memory + UNIT - HEADER), size);
 }
 
@@ -180,7 +255,7 @@ static inline struct allocation block_of_class(size_t class, size_t size) {
     struct block *block = freed[class];
     if (block != NULL) {
         freed[class] = block->next;
-        return some(block, size);
+        return (struct allocation){true, &block->next}; // of the same size as before
     }
     return (size_t)(end_of_chunk - unused) >= size ? next_block(size) : block_of_new_chunk(size);
 }
@@ -190,6 +265,7 @@ static bool fits_growing(size_t size) { return size > LARGE && size <= GROWING_R
 
 // A block above LARGE.
 static struct allocation large_block(size_t size) {
+    if (best_kept(size) != MOST_KEPT) return block_of_pages(take_pages(size), size);
     if (size >= LONG && huge_page == NULL) {
         begin_huge_page();
         if (huge_page != NULL && (size_t)(end_of_chunk - unused) >= size) return next_block(size);
@@ -198,7 +274,7 @@ static struct allocation large_block(size_t size) {
         room_to_grow = NULL;
         return some(growing, size);
     }
-    return mapping(new_pages(size), size);
+    return block_of_pages(take_pages(size), size);
 }
 
 // rattle_alloc for blocks that are not small; most are.
@@ -209,15 +285,37 @@ __attribute__((noinline)) static struct allocation new_block(size_t size) {
 struct allocation rattle_alloc(size_t bytes, size_t align) {
     (void)align; // each block is aligned to 16 bytes, even an empty one, which has 8
     size_t size = rounded(bytes + HEADER, UNIT);
-    return size <= SMALL ? block_of_class(size / UNIT, size) : new_block(block_size(bytes));
+    return bytes <= SMALL - HEADER ? block_of_class(size / UNIT, size) : new_block(block_size(bytes));
 }
 
 void rattle_dealloc(void *old) {
     struct block *block = (struct block *)((char *)old - HEADER);
+    if (block->size <= LARGE) {
+        put(block, block->size);
+        return;
+    }
     if (block == growing) growing = NULL;
-    if (block->size <= LARGE) put(block, block->size);
-    else if (is_in_huge_page(block)) put_all((char *)block, block->size);
-    else munmap((char *)old - UNIT, block->size);
+    if (is_in_huge_page(block)) put_all((char *)block, block->size);
+    else free_pages((char *)old - UNIT, block->size);
+}
+
+// Whether the last block of the chunk should get this size in place. It should not grow if a block of that size was
+// freed, since a vector that grows over and over would then take new memory each time and never the freed one.
+static bool can_end_at_chunk(const struct block *block, size_t size) {
+    return size <= LARGE && (size_t)(end_of_chunk - (char *)block) >= size
+        && (size < block->size || freed[class_of(size)] == NULL);
+}
+
+// Resizes a block with pages of its own. EFAULT says that it has to be copied: there are kept pages for it, or the system
+// does not take joined pages for one range.
+static struct allocation resized_pages(char *at, size_t before, size_t size) {
+    if (size < before) {
+        free_pages(at + size, before - size);
+    } else if (!extend(at + before, size - before)) {
+        errno = EFAULT;
+        at = best_kept(size) == MOST_KEPT ? mremap(at, before, size, MREMAP_MAYMOVE) : MAP_FAILED;
+    }
+    return block_of_pages(at, size);
 }
 
 struct allocation rattle_realloc(void *old, size_t kept, size_t bytes, size_t align) {
@@ -225,9 +323,11 @@ struct allocation rattle_realloc(void *old, size_t kept, size_t bytes, size_t al
     size_t size = block_size(bytes), before = block->size;
     if (size == before) return some(block, size);
     if (block == growing && fits_growing(size)) return some(block, size);
-    if (size > LARGE && before > LARGE && !is_in_huge_page(block))
-        return mapping(mremap((char *)old - UNIT, before, size, MREMAP_MAYMOVE), size);
-    if ((char *)block + before == unused && size <= LARGE && (size_t)(end_of_chunk - (char *)block) >= size) {
+    if (size > LARGE && before > LARGE && !is_in_huge_page(block)) {
+        struct allocation resized = resized_pages((char *)old - UNIT, before, size);
+        if (resized.found || errno != EFAULT) return resized;
+    }
+    if ((char *)block + before == unused && can_end_at_chunk(block, size)) {
         unused = (char *)block + size;
         return some(block, size);
     }

@@ -1,5 +1,6 @@
 // Functions that the static program calls and that musl lacks or has only in a slow form. Linked with --wrap=main.
 #define _GNU_SOURCE
+#include <elf.h>
 #include <signal.h>
 #include <stddef.h>
 #include <stdint.h>
@@ -12,33 +13,64 @@ static size_t word_count;
 static char **words;
 int __real_main(void);
 
+enum { PAGE = 4096 };
+
 // A run uses at least 112 KiB of the stack. Mapping these pages in one call is faster than mapping each at its first
 // write. If the kernel cannot do that, the pages are mapped as usual.
 static void map_stack(void) {
-    enum { PAGE = 4096, PAGES = 28, POPULATE_WRITE = 23 }; // an advice of Linux 5.14, which musl's headers lack
+    enum { PAGES = 28, POPULATE_WRITE = 23 }; // an advice of Linux 5.14, which musl's headers lack
     char here;
     uintptr_t first = (uintptr_t)&here / PAGE * PAGE - (PAGES - 1) * PAGE;
     madvise((void *)first, PAGES * PAGE, POPULATE_WRITE);
 }
 
+// The tables of addresses, which only the start writes, are read-only from then on. glibc does this for a program with
+// the header GNU_RELRO, musl only for a dynamic one.
+extern const char __ehdr_start[] __attribute__((visibility("hidden")));
+
+static void protect_tables(void) {
+    const Elf64_Ehdr *file = (const Elf64_Ehdr *)__ehdr_start;
+    const Elf64_Phdr *part = (const Elf64_Phdr *)(__ehdr_start + file->e_phoff);
+    for (int i = 0; i < file->e_phnum; i++) {
+        if (part[i].p_type != PT_GNU_RELRO) continue;
+        size_t first = part[i].p_vaddr & -(size_t)PAGE, end = (part[i].p_vaddr + part[i].p_memsz) & -(size_t)PAGE;
+        mprotect((char *)__ehdr_start + first, end - first, PROT_READ);
+    }
+}
+
 int __wrap_main(int count, char **arguments) {
     word_count = (size_t)count;
     words = arguments;
+    protect_tables();
     map_stack();
     return __real_main();
 }
 
 size_t rattle_arg_count(void) { return word_count; }
 
-// Copies word i without its final zero and returns its length, -1 if there is no such word, -2 if it is too long.
-ssize_t rattle_arg(size_t i, char *to, size_t room) {
-    if (i >= word_count) return -1;
+// Copies a text without its final zero and returns its length, -2 if it is too long.
+static ssize_t copy_text(const char *text, char *to, size_t room) {
     size_t length = 0;
-    for (; words[i][length] != 0; length++) {
+    for (; text[length] != 0; length++) {
         if (length == room) return -2;
-        to[length] = words[i][length];
+        to[length] = text[length];
     }
     return (ssize_t)length;
+}
+
+// Copies word i, and returns -1 if there is no such word.
+ssize_t rattle_arg(size_t i, char *to, size_t room) {
+    return i < word_count ? copy_text(words[i], to, room) : -1;
+}
+
+// Copies variable i, and returns -1 if there is no such variable. The toolchain's function passes over all variables
+// before it each time. This one begins where the last call ended, since the program does not change its environment.
+ssize_t rattle_env_at(size_t i, char *to, size_t room) {
+    static size_t last;
+    if (environ == NULL) return -1;
+    if (i < last) last = 0;
+    while (last < i && environ[last] != NULL) last++;
+    return environ[last] != NULL ? copy_text(environ[last], to, room) : -1;
 }
 
 // The features of the processor, as glibc reports them by leaves of cpuid. A program is built for x86-64-v2 and first
