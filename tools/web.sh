@@ -4,6 +4,8 @@
 #                            release/MADE_FROM. It makes everything twice and compares. web/out has the modules
 #   tools/web.sh --page TO   makes the page of the present web/ and share/units as the file TO, with the module in
 #                            release/units.html; this needs no toolchain
+#   tools/web.sh --compare   after bin/test: makes the module again and compares it with that of release/units.html.
+#                            Status 3 if this machine does not have the parts for that; the last line says which
 set -euo pipefail
 script=$(readlink -f "${BASH_SOURCE[0]}")
 root=${script%/*/*}
@@ -52,6 +54,27 @@ record() {
     mv "$made_from.new" "$made_from"
 }
 
+# lack REASON: ends a comparison for which something is missing.
+lack() {
+    echo "$*" >&2
+    exit 3
+}
+
+compare() {
+    [ "$(field page)" ] || lack 'the release has no page: run tools/web.sh'
+    [ "$(sum_of "$page")" = "$(field page)" ] || give_up 'release/units.html is not the page that release/MADE_FROM names'
+    command -v rt > /dev/null || lack 'there is no command rt'
+    [ "$(wasm-opt --version 2> /dev/null)" = "$(field module-tools)" ] || lack "there is no $(field module-tools)"
+    [ -e "$root/crates/units/out/units.o" ] || lack 'there is no crates/units/out/units.o'
+    KIT=$(dirname "$(dirname "$(readlink -f "$(command -v rt)")")")
+    export KIT
+    folder=$(mktemp -d)
+    trap 'rm -rf "$folder"' EXIT
+    make_modules "$folder"
+    python3 "$root/tools/web/module_of.py" "$page" "$folder/released.wasm"
+    cmp "$folder/units32.wasm" "$folder/released.wasm"
+}
+
 make() {
     command -v rt > /dev/null || give_up 'there is no command rt (see CONTRIBUTING.md)'
     command -v wasm-opt > /dev/null || give_up 'there is no command wasm-opt: tools/packages.sh installs binaryen'
@@ -73,5 +96,6 @@ make() {
 case "${1-}" in
     '') make ;;
     --page) make_page_again "${2:?a file}" ;;
+    --compare) compare ;;
     *) sed -n '2,/^set/s/^# \{0,1\}//p' "${BASH_SOURCE[0]}" | head -n -1 >&2; exit 2 ;;
 esac

@@ -3,11 +3,14 @@
 // process would be. Nothing here knows about units or numbers.
 const program = (() => {
     // Causes of failure as Linux numbers them, negated, and the flags of open.
-    const NO_SUCH_FILE = -2, BAD_DESCRIPTOR = -9, FILE_EXISTS = -17;
+    const NO_SUCH_FILE = -2, BAD_DESCRIPTOR = -9, FILE_EXISTS = -17, IS_A_FOLDER = -21;
     const CREATE = 0o100, EXCLUSIVE = 0o200, TRUNCATE = 0o1000;
     // What a look-up of an argument or a variable gives instead of a length.
     const NO_ENTRY = -1n, TOO_LONG = -2n;
-    const encoder = new TextEncoder(), decoder = new TextDecoder();
+    // The program replaces a file only if it finds this folder, by which it sees whether its output goes to that file.
+    const OPEN_STREAMS = '/proc/self/fd', FOLDER = {number: 0, pieces: [new Uint8Array()]};
+    // A byte order mark is a letter of a name, so the decoder keeps it.
+    const encoder = new TextEncoder(), decoder = new TextDecoder('utf-8', {ignoreBOM: true});
 
     const bytesOf = text => typeof text === 'string' ? encoder.encode(text) : text;
 
@@ -35,7 +38,10 @@ const program = (() => {
             return file;
         }
 
+        find(name) { return name === OPEN_STREAMS ? FOLDER : this.byName.get(name); }
+
         open(name, flags) {
+            if (name === OPEN_STREAMS) return IS_A_FOLDER;
             const file = this.byName.get(name);
             if (!file) return flags & CREATE ? this.put(name, new Uint8Array()) : NO_SUCH_FILE;
             if (flags & EXCLUSIVE) return FILE_EXISTS;
@@ -46,6 +52,7 @@ const program = (() => {
         rename(from, to) {
             const file = this.byName.get(from);
             if (!file) return NO_SUCH_FILE;
+            if (to === OPEN_STREAMS) return IS_A_FOLDER;
             this.byName.delete(from);
             this.byName.set(to, file);
             return 0;
@@ -103,7 +110,7 @@ const program = (() => {
         };
         const found = (fd, at) => {
             const name = nameAt(at);
-            return name ? files.byName.get(name) : opened.get(fd)?.file;
+            return name ? files.find(name) : opened.get(fd)?.file;
         };
         return {
             word: (i, at, room) => entry(texts.words, i, at, room),

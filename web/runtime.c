@@ -23,7 +23,7 @@ HOST(rename) i64 host_rename(const byte *from, const byte *to);
 HOST(remove) i64 host_remove(const byte *name);
 HOST(random) i64 host_random(byte *at, u64 count);
 
-enum { NOT_SEEKABLE = 29, NOT_SUPPORTED = 38 };
+enum { NO_LINK = 22, NOT_SEEKABLE = 29, NOT_SUPPORTED = 38 };
 
 static int last_error;
 
@@ -50,6 +50,7 @@ int getentropy(byte *at, u64 count) { return (int)returned(host_random(at, count
 
 // No stream is seekable and no file is a link. A file in memory needs no synchronization.
 i64 lseek(int fd, i64 at, int how) { return returned(-NOT_SEEKABLE); }
+i64 readlink(const byte *name, byte *at, u64 room) { return returned(-NO_LINK); }
 byte *realpath(const byte *name, byte *at) { return returned(-NOT_SUPPORTED), (byte *)0; }
 int fsync(int fd) { return 0; }
 int fdatasync(int fd) { return 0; }

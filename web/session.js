@@ -46,7 +46,7 @@ const session = (() => {
 
     // Files that the session saved become the user's own.
     function takeSaved({initial, after}) {
-        const decoder = new TextDecoder();
+        const decoder = new TextDecoder('utf-8', {ignoreBOM: true});
         const texts = [...after].map(([name, bytes]) => [name, decoder.decode(bytes)]);
         const saved = texts.filter(([name, text]) => initial.get(name) !== text && files.textOf(name) !== text);
         if (saved.length > 0) files.change(saved);

@@ -32,6 +32,9 @@ SESSIONS = [
      ":undo", "1 gallon", "l"],
     [":define aa bb", ":define bb aa", "aa", ":define bb 3 m", "aa", "cm", ":save s.units", ":drop aa", ":load s.units",
      "aa", "m", "quit"],
+    [":define smoot 67 in", f":save {OWN_FILE}", "2 smoot", "in", ":define smoot 68 in", f":save {OWN_FILE}",
+     "2 smoot", "in"],
+    [":save s.units", ":define bb 3 m", ":save s.units", ":drop bb", ":load s.units", "bb", "cm", ":save /proc/self/fd"],
 ]
 
 

@@ -1,17 +1,19 @@
 #!/usr/bin/env python3
 """Drives the page in headless browsers and compares every reply with the native program.
 
-    tests/web/check_page.py PAGE PROGRAM [--questions N] [--module64 FILE] [--pictures FOLDER]
+    tests/web/check_page.py PAGE PROGRAM [--questions N] [--module64 FILE] [--pictures FOLDER] [--seed N] [--runs N]
 
 PAGE is the page as one file, and PROGRAM the native program of the same sources. The library is the one in the page.
-A browser that is not installed is skipped. The last line is `N passed, M failed, K skipped`, and the status is 0
-exactly if nothing failed.
+The page's module also answers random runs in Node: 2,000, or as many as --runs, made from a seed that is printed.
+A browser that is not installed is skipped, and so is Node. The last line is `N passed, M failed, K skipped`, and the
+status is 0 if nothing failed, and else 1.
 """
 
 from __future__ import annotations
 
 import argparse
 import json
+import random
 import re
 import shutil
 import subprocess
@@ -29,6 +31,7 @@ import accessibility
 import cases
 import modules
 import pictures
+import random_runs
 from chromium import Chromium
 from firefox import Firefox
 from page import Page
@@ -77,6 +80,13 @@ class Native:
     def write(self, name: str, text: str) -> None:
         (self.folder / name).write_text(text)
 
+    def take(self, name: str) -> str | None:
+        """The text of a file, which is removed, or None."""
+        file = self.folder / name
+        text = file.read_text() if file.exists() else None
+        file.unlink(missing_ok=True)
+        return text
+
     def run(self, words: list[str], text: str | None = None) -> subprocess.CompletedProcess[str]:
         return subprocess.run([self.program, *words], cwd=self.folder, input=text, capture_output=True,
                               encoding="utf-8", errors="replace", check=False)
@@ -121,7 +131,10 @@ def check_sessions(name: str, page: Page, native: Native, tally: Tally) -> None:
         page.enter_lines(lines)
         process = native.run(["-f", cases.OWN_FILE], "".join(f"{line}\n" for line in lines))
         tally.equal(f"{name}: session from {lines[0]!r}", page.session_output(), (process.stdout, process.stderr))
-        (native.folder / "s.units").unlink(missing_ok=True)
+        for file, text in ((cases.OWN_FILE, cases.OWN_TEXT), ("s.units", None)):
+            kept, saved = page.take_file(file), native.take(file)
+            tally.equal(f"{name}: {file} after the session from {lines[0]!r}", kept, saved if saved != text else None)
+        native.write(cases.OWN_FILE, cases.OWN_TEXT)
     page.click("restart")
     page.enter_lines(["10 m", "ft", "2 m"])
     output = page.session_output()
@@ -270,6 +283,10 @@ def check_firefox(arguments: argparse.Namespace, native: Native, tally: Tally) -
         browser.close()
 
 
+def check_module(arguments: argparse.Namespace, native: Native, tally: Tally) -> None:
+    random_runs.check(arguments.page, native.program, arguments.seed, arguments.runs, tally.equal)
+
+
 def check_views(page: Page, native: Native, tally: Tally) -> None:
     name = page.browser.name
     page.open()
@@ -294,10 +311,13 @@ def main() -> None:
     parser.add_argument("--questions", type=int, default=60)
     parser.add_argument("--module64", type=Path)
     parser.add_argument("--pictures", type=Path)
+    parser.add_argument("--seed", type=int, default=random.randrange(10**6))
+    parser.add_argument("--runs", type=int, default=2000)
     arguments = parser.parse_args()
     library, tally = library_of(arguments.page), Tally()
     checks = [
         (Chromium.command, check_chromium), (Chromium.command, ask_chromium), (Firefox.command, check_firefox),
+        ("node", check_module),
     ]
     with tempfile.TemporaryDirectory() as temporary, ThreadPoolExecutor(len(checks)) as pool:
         futures = []

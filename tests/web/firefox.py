@@ -92,5 +92,5 @@ class Firefox:
             self.call("Marionette:Quit", flags=["eForceQuit"])
         except (EOFError, ConnectionError):
             pass
-        self._process.wait(20)
+        self._process.wait(120)
         self._profile.cleanup()

@@ -119,6 +119,15 @@ class Page:
           file.dispatchEvent(new Event('change'));
         }})()""")
 
+    def take_file(self, name: str) -> str | None:
+        """The text of a file that the page keeps, or None. Removes it, as another tab would."""
+        return self.browser.value(f"""(key => {{
+          const text = JSON.parse(localStorage.getItem(key));
+          localStorage.removeItem(key);
+          dispatchEvent(new StorageEvent('storage', {{key}}));
+          return text;
+        }})({json.dumps(f"units:file:{name}")})""")
+
     def report(self) -> list[str]:
         return self.browser.value("[...document.querySelectorAll('#check li')].map(item => item.textContent)")
 

@@ -7,7 +7,7 @@ set -u
 script=$(readlink -f "${BASH_SOURCE[0]}") || exit
 root=${script%/*/*/*}
 page=$root/release/units.html
-program=$root/release/units-x86_64-linux
+program=$root/release/units-x86_64-linux-static
 made_from=$root/release/MADE_FROM
 
 sum_of() { sha256sum "$1" 2> /dev/null | cut -d ' ' -f 1; }
@@ -22,7 +22,7 @@ skip() {
 
 [ -e "$page" ] \
     || skip 'there is no release/units.html: tools/web.sh makes it after bin/test and tools/release/release.sh'
-if [ "$(sum_of "$page")" != "$(field page)" ] || [ "$(sum_of "$program")" != "$(field program)" ]; then
+if [ "$(sum_of "$page")" != "$(field page)" ] || [ "$(sum_of "$program")" != "$(field static)" ]; then
     skip 'release/units.html is not of this release: run tools/web.sh'
 fi
 folder=$(mktemp -d) || exit
