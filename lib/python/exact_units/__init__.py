@@ -1,9 +1,10 @@
+# SPDX-License-Identifier: MIT OR Apache-2.0
 """Exact unit conversion, by the shared library of `units` or by a session of the program.
 
 >>> from exact_units import Units
 >>> units = Units()
->>> units.convert("3 ft", "m")
-Fraction(1143, 1250)
+>>> units.convert("60 mph", "km/h")
+Fraction(301752, 3125)
 >>> units.value("9.81 N").dimension
 {'kg': Fraction(1, 1), 'm': Fraction(1, 1), 's': Fraction(-2, 1)}
 """
@@ -20,6 +21,7 @@ from .faults import (
     CyclicDefinition,
     DeckFull,
     DefinitionFault,
+    DefinitionWarning,
     DivisionByZero,
     ExponentNotNumber,
     ExponentRange,
@@ -52,7 +54,7 @@ from .faults import (
 from .quantity import Quantity
 from .units import Units
 
-__version__ = "1.0.0"
+__version__ = "1.1.0"
 
 __all__ = [
     "ArgumentNeeded",
@@ -66,6 +68,7 @@ __all__ = [
     "CyclicDefinition",
     "DeckFull",
     "DefinitionFault",
+    "DefinitionWarning",
     "DivisionByZero",
     "ExponentNotNumber",
     "ExponentRange",

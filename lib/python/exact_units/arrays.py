@@ -1,3 +1,4 @@
+# SPDX-License-Identifier: MIT OR Apache-2.0
 """Conversions of numpy arrays and pandas series, in floating point.
 
 They need numpy or pandas. Each number is multiplied by the exact ratio of the units, rounded to a float. So it may

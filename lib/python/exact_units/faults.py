@@ -1,3 +1,4 @@
+# SPDX-License-Identifier: MIT OR Apache-2.0
 """The exceptions: one for each kind of fault."""
 
 from __future__ import annotations
@@ -159,6 +160,10 @@ class BackEndError(UnitsError):
 
 class OutOfMemory(BackEndError, MemoryError):
     """There was not enough memory. The definitions are as before."""
+
+
+class DefinitionWarning(UserWarning):
+    """A definition file includes a file that was skipped, because it is absent or too long."""
 
 
 class Kind(NamedTuple):

@@ -1,3 +1,4 @@
+# SPDX-License-Identifier: MIT OR Apache-2.0
 """The back end that calls the shared library, by ctypes."""
 
 from __future__ import annotations
@@ -6,15 +7,15 @@ import ctypes
 import os
 from ctypes import POINTER, Structure, byref, c_char_p, c_size_t, c_uint8, c_uint32, c_uint64, c_void_p
 from fractions import Fraction
-from typing import Any, Callable, Dict, List, Optional, Sequence, Tuple
+from typing import Any, Callable, Dict, List, Optional
 
-from .backend import Definitions
-from .faults import BackEndError, DefinitionFault, NoSuchFile, OutOfMemory, fault_of_status
+from .backend import Definitions, LockedBackEnd
+from .definition_files import DefinitionFiles
+from .faults import BackEndError, OutOfMemory, fault_of_status
 from .quantity import Quantity, read_dimension
 
-_DONE, _NO_MEMORY, _NO_ROOM, _CLOSED = 0, 1, 2, 3
-_LONGEST_FILE = 16_777_216
-_DEEPEST_INCLUDE = 16
+_DONE, _NO_MEMORY, _NO_ROOM, _CLOSED, _DECK_FULL = 0, 1, 2, 3, 19
+_USUAL_ROOM = 4096
 
 
 class _Table(Structure):
@@ -88,90 +89,91 @@ def load_library(path: str) -> ctypes.CDLL:
     return calls
 
 
-class LibraryBackEnd:
-    """A table of the library. Only one thread may use it at a time."""
+class _Room:
+    """A buffer for a text, and the length that a call stores."""
+
+    def __init__(self, size: int) -> None:
+        self.size = size
+        self.buffer = ctypes.create_string_buffer(size)
+        self._view = memoryview(self.buffer)
+        self._length = c_size_t()
+        self.length_at = byref(self._length)
+
+    def length(self) -> int:
+        """Return the length that the last call has stored."""
+        return self._length.value
+
+    def text(self) -> str:
+        """Return the text of the last call."""
+        return str(self._view[: self._length.value], "utf-8", "surrogateescape")
+
+
+class LibraryBackEnd(LockedBackEnd):
+    """A table of the library. The lock lets one thread use it at a time, because ctypes lets other threads run."""
 
     def __init__(self, calls: ctypes.CDLL, definitions: Definitions, built_in: Callable[[], bytes]) -> None:
+        super().__init__()
         self._calls = calls
         self._convert = calls.units_convert
         self._table = _Table()
         self._table_at = byref(self._table)
-        self._number = _Number()
-        self._number_at = byref(self._number)
         self._options_at = byref(_Options(exact=1, strict=1, one_line=1, compact=1))
-        self._length = c_size_t()
-        self._length_at = byref(self._length)
-        self._make_room(4096)
+        self._room: Optional[_Room] = None
         self._open(definitions, built_in)
 
-    def _make_room(self, size: int) -> None:
-        self._size = size
-        self._buffer = ctypes.create_string_buffer(size)
-        self._view = memoryview(self._buffer)
-
     def _open(self, definitions: Definitions, built_in: Callable[[], bytes]) -> None:
-        if definitions.path is not None:
-            main = os.fsencode(definitions.path)
-            files = _read_with_includes(main)
-        else:
-            main = b"definitions"
-            files = {main: built_in() if definitions.text is None else definitions.text.encode()}
+        files = definitions.read()
+        if files is None:
+            files = DefinitionFiles(b"definitions", {b"definitions": built_in()})
+        main, texts = files
         variables = _encodable(definitions.variables)
-        locale, seed = definitions.locale.encode(), os.urandom(16)
+        locale, seed = os.fsencode(definitions.locale), os.urandom(16)
         arguments = _Definitions(
-            main, len(main), _entries(files), len(files), _entries(variables), len(variables), locale, len(locale),
+            main, len(main), _entries(texts), len(texts), _entries(variables), len(variables), locale, len(locale),
             seed, len(seed),
         )
         status = self._calls.units_open(self._table_at, byref(arguments))
         if status == _NO_MEMORY:
             raise OutOfMemory("out of memory")
         if status != _DONE:
-            name = os.fsdecode(main)
-            texts = {16: f"no file: {name}", 17: f"file too long: {name}", 19: "deck full"}
-            raise fault_of_status(status, texts.get(status, f"units_open returned {status}"))
+            raise fault_of_status(status, "deck full" if status == _DECK_FULL else f"units_open returned {status}")
 
     def _text(self, call: Callable[..., int], *arguments: Any) -> str:
-        """Return the text of a call, or raise its fault. If the buffer is too short, make it longer and call again."""
-        status = call(self._table_at, *arguments, self._buffer, self._size, self._length_at)
-        if status == _DONE:
-            return str(self._view[: self._length.value], "utf-8", "surrogateescape")
-        if status == _NO_ROOM:
-            self._make_room(2 * self._length.value)
-            return self._text(call, *arguments)
-        raise self._fault(status)
+        """Return the text of a call, or raise its fault. If the buffer is too short, call again with a longer one."""
+        with self._lock:
+            if self._was_called_at_fork:
+                raise BackEndError("another thread used the table when this process was forked")
+            room, self._room = self._room or _Room(_USUAL_ROOM), None
+            status = call(self._table_at, *arguments, room.buffer, room.size, room.length_at)
+            while status == _NO_ROOM:
+                room = _Room(2 * room.length())
+                status = call(self._table_at, *arguments, room.buffer, room.size, room.length_at)
+            text = room.text()
+            self._room = room
+        if status != _DONE:
+            raise _fault(status, text)
+        return text
 
-    def _fault(self, status: int) -> Exception:
-        if status == _NO_MEMORY:
-            return OutOfMemory("out of memory")
-        if status == _CLOSED:
-            return BackEndError("the table is closed")
-        text = str(self._view[: self._length.value], "utf-8", "surrogateescape")
-        return fault_of_status(status, text.rstrip("\n"))
-
-    def convert(self, source: str, target: str) -> str:
+    def convert(self, source: bytes, target: bytes) -> str:
         """See `BackEnd.convert`."""
-        start, end = source.encode(), target.encode()
-        return self._text(self._convert, start, len(start), end, len(end), self._options_at)[:-1]
+        return self._text(self._convert, source, len(source), target, len(target), self._options_at)[:-1]
 
-    def value(self, expression: str) -> Quantity:
+    def value(self, expression: bytes) -> Quantity:
         """See `BackEnd.value`."""
-        text = expression.encode()
-        dimension = self._text(self._calls.units_value, text, len(text), self._number_at)
-        number = self._number
+        number = _Number()
+        dimension = self._text(self._calls.units_value, expression, len(expression), byref(number))
         numerator = number.numerator_high << 64 | number.numerator_low
         denominator = number.denominator_high << 64 | number.denominator_low
         magnitude = Fraction(-numerator if number.negative else numerator, denominator)
         return Quantity(magnitude, read_dimension(dimension))
 
-    def define(self, line: str) -> None:
+    def define(self, line: bytes) -> None:
         """See `BackEnd.define`."""
-        text = line.encode()
-        self._edit(self._calls.units_define, text, len(text))
+        self._edit(self._calls.units_define, line, len(line))
 
-    def drop(self, key: str) -> None:
+    def drop(self, key: bytes) -> None:
         """See `BackEnd.drop`."""
-        text = key.encode()
-        self._edit(self._calls.units_drop, text, len(text))
+        self._edit(self._calls.units_drop, key, len(key))
 
     def undo(self) -> None:
         """See `BackEnd.undo`."""
@@ -185,18 +187,27 @@ class LibraryBackEnd:
         # Only a refusal has a text. So if the buffer is too short, nothing was edited, and the call may be repeated.
         self._text(call, *arguments)
 
-    def search(self, text: str) -> List[str]:
+    def search(self, text: bytes) -> List[str]:
         """See `BackEnd.search`."""
-        words = text.encode()
-        return self._text(self._calls.units_search, words, len(words)).splitlines()
+        return self._text(self._calls.units_search, text, len(text)).split("\n")
 
     def close(self) -> None:
         """See `BackEnd.close`."""
-        self._calls.units_close(self._table_at)
+        with self._lock:
+            if not self._was_called_at_fork:
+                self._calls.units_close(self._table_at)
 
     def __del__(self) -> None:
         if getattr(self, "_table", None) is not None:
             self.close()
+
+
+def _fault(status: int, text: str) -> Exception:
+    if status == _NO_MEMORY:
+        return OutOfMemory("out of memory")
+    if status == _CLOSED:
+        return BackEndError("the table is closed")
+    return fault_of_status(status, text.rstrip("\n"))
 
 
 def _entries(texts: Dict[bytes, bytes]) -> Any:
@@ -213,47 +224,3 @@ def _encodable(variables: Dict[str, str]) -> Dict[bytes, bytes]:
         except UnicodeEncodeError:
             continue
     return texts
-
-
-def _read_with_includes(main: bytes) -> Dict[bytes, bytes]:
-    """Return a definition file and each file that it may include, by the names that the library looks up."""
-    text = _read(main)
-    if text is None:
-        raise NoSuchFile(f"no file: {os.fsdecode(main)}")
-    files = {main: text}
-    includers = [main]
-    for _ in range(_DEEPEST_INCLUDE):
-        names = [_included_name(includer, word) for includer in includers for word in _included_words(files[includer])]
-        includers = []
-        for name in names:
-            text_of_file = None if name in files else _read(name)
-            if text_of_file is not None:
-                files[name] = text_of_file
-                includers.append(name)
-    return files
-
-
-def _included_name(includer: bytes, word: bytes) -> bytes:
-    """Return the name that the library looks up for an included file."""
-    return word if word.startswith(b"/") else includer[: includer.rfind(b"/") + 1] + word
-
-
-def _read(name: bytes) -> Optional[bytes]:
-    """Return the bytes of a file, but at most one more than the library accepts. None if there is no file."""
-    try:
-        with open(name, "rb") as file:
-            return file.read(_LONGEST_FILE + 1)
-    except (FileNotFoundError, NotADirectoryError, IsADirectoryError, ValueError):
-        return None
-    except OSError as error:
-        raise DefinitionFault(f"cannot read {os.fsdecode(name)}: {error.strerror}") from error
-
-
-def _included_words(text: bytes) -> Sequence[bytes]:
-    """Return the file names in all lines that may be includes, and perhaps some in other lines."""
-    words: List[bytes] = []
-    for line in text.replace(b"\\\n", b" ").split(b"\n"):
-        parts: Tuple[bytes, ...] = tuple(line.partition(b"#")[0].split())
-        if len(parts) > 1 and parts[0] == b"!include":
-            words.append(parts[1])
-    return words

@@ -1,3 +1,4 @@
+# SPDX-License-Identifier: MIT OR Apache-2.0
 """Quantities: an exact number together with the exponents of base units."""
 
 from __future__ import annotations

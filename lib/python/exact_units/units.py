@@ -1,46 +1,54 @@
+# SPDX-License-Identifier: MIT OR Apache-2.0
 """The class `Units`: definitions that can be queried and edited."""
 
 from __future__ import annotations
 
 import os
 import re
+import shutil
 from decimal import Decimal
 from fractions import Fraction
 from typing import Iterable, Iterator, List, Mapping, Optional, Tuple, Union
 
 from .backend import BackEnd, Definitions
-from .faults import ArgumentNeeded, BackEndError, ConformabilityError, NotAnExpression
+from .faults import ArgumentNeeded, BackEndError, ConformabilityError, NotAnExpression, NumeralTooLong
 from .quantity import Quantity, read_fraction
 
 Real = Union[int, float, Fraction, Decimal]
 
 _FOLDER = os.path.dirname(os.path.abspath(__file__))
+_REPOSITORY = os.path.dirname(os.path.dirname(os.path.dirname(_FOLDER)))
+# Debian's package calls the program exact-units, because GNU units is called units.
+_PROGRAMS = ("exact-units", "units")
 # Bytes and first words that no expression in a session has.
-_has_special = re.compile(r"[\n\r\0;#]").search
-_is_command = re.compile(r"[:?]|(?:search|quit|exit|help|conformable)(?:\s|\Z)").match
+_has_special = re.compile(rb"[\n\r\0;#]").search
+_is_command = re.compile(rb"[:?]|(?:search|quit|exit|help|conformable)(?:\s|\Z)").match
 _LONGEST = 60_000
+# Of a number in a question. Both back ends refuse much shorter ones.
+_MOST_BITS = 8192
 
 
 class Units:
     """Unit definitions that answer questions exactly.
 
-    ``Units()`` has the built-in definitions, ``Units(path)`` those of a file with its includes, and ``Units(text=...)``
-    those of a text. The backend "library" uses the shared library: a question takes microseconds and no other process.
+    ``Units()`` has the whole library of units, ``Units(built_in=True)`` the few definitions of the program itself,
+    ``Units(path)`` those of a file with its includes, and ``Units(text=...)`` those of a text. The backend "library" uses the shared library: a question takes microseconds and no other process.
     The backend "session" uses a session of the program. "auto" uses the library if it is available. The answers are the
-    same.
+    same. Threads may share the object, and the child of a fork may use it.
 
     path: a definition file in the format of GNU units.
     text: definitions instead of a file.
+    built_in: whether to take the built-in definitions.
     locale: the locale of ``!locale`` lines.
     variables: the variables of ``!var`` and ``!varnot`` lines; by default the environment.
     library: the shared library; by default ``$EXACT_UNITS_LIBRARY``, the one in this package, or ``libunits.so.1``.
-    program: the program; by default ``$EXACT_UNITS_PROGRAM``, the one in this package, or ``units``.
+    program: the program; by default ``$EXACT_UNITS_PROGRAM``, or else the first of ``exact-units`` and ``units``.
 
     Raises `BackEndError` if the back end is not available, and `DefinitionFault` if the definitions cannot be loaded.
 
     >>> with Units() as units:
-    ...     print(units.convert("3 ft", "m"))
-    1143/1250
+    ...     print(units.convert("60 mph", "km/h"))
+    301752/3125
     >>> units = Units(text="m !\\nspan 9|40 m\\n")
     >>> units.convert("2 span", "m")
     Fraction(9, 20)
@@ -52,16 +60,20 @@ class Units:
         path: Union[str, "os.PathLike[str]", None] = None,
         *,
         text: Optional[str] = None,
+        built_in: bool = False,
         locale: str = "en_US",
         variables: Optional[Mapping[str, str]] = None,
         backend: str = "auto",
         library: Optional[str] = None,
         program: Optional[str] = None,
     ) -> None:
-        if path is not None and text is not None:
-            raise TypeError("path and text exclude each other")
+        if (path is not None) + (text is not None) + built_in > 1:
+            raise TypeError("path, text and built_in exclude each other")
+        if path is None and text is None and not built_in:
+            path = _path_of_library()
         environment = dict(os.environ if variables is None else variables)
-        definitions = Definitions(None if path is None else os.fspath(path), text, locale, environment)
+        words = None if text is None else text.encode("utf-8", "surrogateescape")
+        definitions = Definitions(None if path is None else os.fspath(path), words, locale, environment)
         self._back_end = _open(definitions, backend, library, program)
 
     @property
@@ -138,12 +150,16 @@ class Units:
             # Python rounds the quotient of two integers to the nearest float.
             yield n * top / (d * bottom)
 
-    def _function_column(self, numbers: Iterable[Real], source: str, target: str, is_function: bool) -> Iterator[float]:
-        prefix, suffix = (f"{source}(", ")") if is_function else ("", f" ({source})")
-        convert = self._back_end.convert
+    def _function_column(
+        self, numbers: Iterable[Real], source: bytes, target: bytes, is_function: bool
+    ) -> Iterator[float]:
+        pattern = b"%b(%d|%d)" if is_function else b"%d|%d (%b)"
         for x in numbers:
             n, d = x.as_integer_ratio()
-            top, _, bottom = _plain(convert(f"{prefix}{n}|{d}{suffix}", target)).partition("|")
+            if max(n.bit_length(), d.bit_length()) > _MOST_BITS:
+                raise NumeralTooLong("numeral too long")
+            words = (source, n, d) if is_function else (n, d, source)
+            top, _, bottom = _plain(self._back_end.convert(pattern % words, target)).partition("|")
             yield int(top) / int(bottom or 1)
 
     def unit(self, text: str) -> Optional[Quantity]:
@@ -159,14 +175,14 @@ class Units:
         Raises a `DefinitionFault`, or the fault of the expression.
 
         >>> units = Units()
-        >>> units.define("span 9 in")
-        >>> units.convert("2 span", "in")
-        Fraction(18, 1)
+        >>> units.define("desk 30 in")
+        >>> units.convert("2 desk", "in")
+        Fraction(60, 1)
         >>> units.undo()
-        >>> units.convert("2 span", "in")
+        >>> units.convert("2 desk", "in")
         Traceback (most recent call last):
         ...
-        exact_units.faults.UnknownUnit: unknown unit: span
+        exact_units.faults.UnknownUnit: unknown unit: desk
         """
         self._back_end.define(_line(line))
 
@@ -188,8 +204,8 @@ class Units:
     def search(self, text: str) -> List[Tuple[str, str]]:
         """Return the name and the definition of each unit, prefix, function and list whose name contains a text.
 
-        >>> Units().search("yar")
-        [('yard', 'yd')]
+        >>> Units().search("furlong")
+        [('furlong', '660 foot'), ('survey_furlong', '660 survey_foot')]
         """
         rows = self._back_end.search(_line(text))
         return [(name, definition) for _, name, definition in (row.split("\t", 2) for row in rows if "\t" in row)]
@@ -205,20 +221,28 @@ class Units:
         self.close()
 
 
-def _line(text: str) -> str:
-    """Return a text without the blanks around it, if it is a single line that a session reads unchanged."""
-    text = text.strip(" \t")
-    if not text or len(text) > _LONGEST or any(c in text for c in "\n\r\0"):
+def _bytes(text: str) -> bytes:
+    """Return the bytes of a text. Bytes that are not UTF-8, as in a name that `search` has found, are kept."""
+    try:
+        return text.encode("utf-8", "surrogateescape").strip(b" \t")
+    except UnicodeEncodeError:
+        raise NotAnExpression(f"not a text: {text[:40]!r}") from None
+
+
+def _line(text: str) -> bytes:
+    """Return a text without a comment and the blanks around it, if it is a single line that a session reads whole."""
+    line = _bytes(text).partition(b"#")[0].rstrip(b" \t")
+    if not line or len(line) > _LONGEST or any(c in line for c in b"\n\r\0"):
         raise NotAnExpression(f"not one line: {text[:40]!r}")
-    return text
+    return line
 
 
-def _expression(text: str) -> str:
+def _expression(text: str) -> bytes:
     """Return a text without the blanks around it, if both back ends read it as an expression."""
-    text = text.strip(" \t")
-    if not text or len(text) > _LONGEST or _has_special(text) or _is_command(text):
-        raise NotAnExpression(f"not an expression: {_line(text)[:40]!r}")
-    return text
+    line = _bytes(text)
+    if not line or len(line) > _LONGEST or _has_special(line) or _is_command(line):
+        raise NotAnExpression(f"not an expression: {text[:40]!r}")
+    return line
 
 
 def _plain(reply: str) -> str:
@@ -245,26 +269,38 @@ def _open(definitions: Definitions, backend: str, library: Optional[str], progra
 def _open_library(definitions: Definitions, library: Optional[str], program: Optional[str]) -> BackEnd:
     from .library import LibraryBackEnd, load_library
 
-    path = library or os.environ.get("EXACT_UNITS_LIBRARY") or _packaged_path("libunits.so.1")
+    path = library or os.environ.get("EXACT_UNITS_LIBRARY") or _path_of("libunits.so.1", "release") or "libunits.so.1"
     return LibraryBackEnd(load_library(path), definitions, lambda: _built_in(program))
 
 
 def _program(program: Optional[str]) -> str:
-    return program or os.environ.get("EXACT_UNITS_PROGRAM") or _packaged_path("units")
+    named = program or os.environ.get("EXACT_UNITS_PROGRAM") or _path_of("units", "bin")
+    if named:
+        return named
+    return next((name for name in _PROGRAMS if shutil.which(name)), _PROGRAMS[0])
 
 
-def _packaged_path(name: str) -> str:
-    """Return the path of a file of this package, or else its name, which the system looks up."""
-    path = os.path.join(_FOLDER, name)
-    return path if os.path.exists(path) else name
+def _path_of(name: str, folder: str) -> Optional[str]:
+    """Return the path of a file of this package, or else of a folder of the repository that the package is in."""
+    paths = [os.path.join(_FOLDER, name)]
+    if os.path.exists(os.path.join(_REPOSITORY, "crates.txt")):
+        paths.append(os.path.join(_REPOSITORY, folder, name))
+    return next((path for path in paths if os.path.exists(path)), None)
+
+
+def _path_of_library() -> str:
+    path = _path_of("all.units", "share/units")
+    if path is None:
+        raise BackEndError(f"the library of units, {os.path.join(_FOLDER, 'all.units')}, is not installed")
+    return path
 
 
 def _built_in(program: Optional[str]) -> bytes:
     """Return the built-in definitions: those of this package, or else those of the program."""
-    path = os.path.join(_FOLDER, "built_in.units")
-    if os.path.exists(path):
+    path = _path_of("built_in.units", "share/units")
+    if path is not None:
         with open(path, "rb") as file:
             return file.read()
-    from .session import saved_definitions
+    from .session_process import saved_definitions
 
     return saved_definitions(_program(program))

@@ -14,6 +14,7 @@ import re
 import tempfile
 import threading
 import unittest
+import unittest.mock
 from decimal import Decimal
 from fractions import Fraction
 from pathlib import Path
@@ -226,8 +227,16 @@ class BackEndTests:
                 with self.assertRaises(exact_units.UnknownUnit):
                     instance.convert(name, "m")
 
-    def test_built_in_definitions(self) -> None:
+    def test_the_library_of_units_is_the_default(self) -> None:
         with self.open() as instance:
+            self.assertEqual(instance.convert("60 mph", "km/h"), Fraction(301752, 3125))
+        with self.open(locale="en_GB") as instance:
+            self.assertEqual(instance.convert("gallon", "litre"), Fraction(454609, 100_000))
+
+    def test_built_in_definitions(self) -> None:
+        with self.open(built_in=True) as instance, self.assertRaises(exact_units.UnknownUnit):
+            instance.convert("mph", "km/h")
+        with self.open(built_in=True) as instance:
             self.assertEqual(instance.convert("mile", "ft"), 5280)
             self.assertEqual(instance.convert("tempF(45)", "tempC"), Fraction(65, 9))
 
@@ -248,9 +257,10 @@ class BackEndTests:
             with self.assertRaises(exact_units.BackEndError):
                 call()
 
-    def test_text_and_path_exclude_each_other(self) -> None:
-        with self.assertRaises(TypeError):
-            self.open(path="a", text="m !")
+    def test_text_path_and_built_in_exclude_each_other(self) -> None:
+        for options in ({"path": "a", "text": "m !"}, {"path": "a", "built_in": True}, {"text": "", "built_in": True}):
+            with self.assertRaises(TypeError):
+                self.open(**options)
 
     def test_doctests(self) -> None:
         for module in (exact_units, units):
@@ -299,16 +309,42 @@ class SessionTests(BackEndTests, unittest.TestCase):
             with self.assertRaises(exact_units.BackEndError):
                 Units(text=TEXT, backend="session", program=program)
 
-    def test_a_session_that_is_killed(self) -> None:
-        instance = self.open(text=TEXT)
-        process = instance._back_end._process  # type: ignore[attr-defined]
-        process.kill()
-        process.wait()
-        with self.assertRaises(exact_units.BackEndError):
-            instance.convert("ft", "m")
-        with self.assertRaises(exact_units.BackEndError):
-            instance.convert("ft", "m")
-        instance.close()
+
+class ProgramTests(unittest.TestCase):
+    """A pure wheel looks for the program by its two names, of which GNU units has one."""
+
+    def setUp(self) -> None:
+        folder = tempfile.TemporaryDirectory()
+        self.addCleanup(folder.cleanup)
+        self.folder = Path(folder.name)
+        for name, value in (("_FOLDER", f"{folder.name}/package"), ("_REPOSITORY", folder.name)):
+            patch = unittest.mock.patch.object(units, name, value)
+            patch.start()
+            self.addCleanup(patch.stop)
+        patch = unittest.mock.patch.dict(os.environ, {"PATH": folder.name}, clear=True)
+        patch.start()
+        self.addCleanup(patch.stop)
+
+    def add(self, name: str, text: str) -> None:
+        (self.folder / name).write_text(f"#!/bin/sh\n{text}\n")
+        (self.folder / name).chmod(0o755)
+
+    def message(self) -> str:
+        with self.assertRaises(exact_units.BackEndError) as context:
+            Units(text=TEXT, backend="session")
+        return str(context.exception)
+
+    def test_gnu_units_is_refused(self) -> None:
+        self.add("units", '[ "$1" = --version ] && echo "GNU Units version 2.22"; exit 1')
+        self.assertIn(f"{self.folder}/units is GNU units", self.message())
+
+    def test_exact_units_comes_first(self) -> None:
+        self.add("units", "exit 1")
+        self.add("exact-units", "exit 9")
+        self.assertIn("status 9", self.message())
+
+    def test_no_program(self) -> None:
+        self.assertIn("cannot start exact-units", self.message())
 
 
 class QuantityTests(unittest.TestCase):
