@@ -1,3 +1,4 @@
+/* SPDX-License-Identifier: MIT OR Apache-2.0 */
 /* units: exact unit conversion.
 
    A program opens a table over definitions in memory, asks it any number of questions, and closes it:
@@ -18,13 +19,15 @@
    nothing and keeps nothing outside the table. It needs malloc, realloc, free, memcpy, memmove and memset.
 
    The caller has to guarantee:
-   - No pointer is null, except a pointer to zero bytes or entries where UNITS_NO_TEXT, or NULL with the length 0 in a
-     units_definitions, is used. Memory that a call writes overlaps nothing else that the call gets.
+   - No pointer is null, except `buffer` if `size` is 0, and a pointer of a units_definitions to no bytes or entries.
+     Memory that a call writes overlaps nothing else that the call gets.
    - A table begins as UNITS_TABLE, or with all bytes zero. It is not copied or moved while it is open.
-   - A table is used by one thread at a time, and by the thread that opened it. Different tables may be used by
-     different threads at the same time.
-   - The calling thread has at least 1 MiB of stack left.
-   - No call is made from a signal handler, or in the child of a fork of a process with threads. */
+   - A table is used by one thread at a time. If threads take turns, a lock orders their calls. Different tables may be
+     used by different threads at the same time.
+   - The calling thread has at least UNITS_STACK_SIZE bytes of stack left. Only functions that call one another, each
+     with a deeply nested expression, take so much. All other calls, also over such definitions, take less than 192 KiB,
+     and a conversion of plain units less than 32 KiB.
+   - No call is made from a signal handler, or in the child of a fork that was made during a call. */
 #ifndef UNITS_H
 #define UNITS_H
 
@@ -34,6 +37,12 @@
 #ifdef __cplusplus
 extern "C" {
 #endif
+
+/* The version of this header, and of the library that it was released with. */
+#define UNITS_VERSION "1.1.0"
+
+/* The stack that a call may take, in bytes. */
+#define UNITS_STACK_SIZE 1572864
 
 /* The result of a call. Values that are not listed are never returned by this version; later versions may add some. */
 enum units_status {
@@ -151,9 +160,11 @@ typedef struct units_number {
     uint64_t denominator_low;
 } units_number;
 
-/* Each call below with `buffer`, `size` and `length` puts a text into the buffer and its length into `length`. If the
-   buffer is too short it returns UNITS_NO_ROOM, and only `length` is set; an edit is made all the same. After
-   UNITS_NO_MEMORY and UNITS_CLOSED `length` is 0. After a fault the text is the text of the fault. */
+/* Each call below with `buffer`, `size` and `length` puts a text into the buffer and its length into `length`, and writes
+   nothing after the text. After a fault the text is the text of the fault. If the buffer is too short, the call returns
+   UNITS_NO_ROOM, `length` is the size that it needs, and the buffer is as before; an edit is made all the same. So a
+   call with NULL and 0 asks for the length. After UNITS_NO_MEMORY, UNITS_CLOSED and UNITS_BAD_OPTIONS `length` is 0 and
+   the buffer is as before. */
 
 /* Opens a closed table. Returns UNITS_DONE, UNITS_ALREADY_OPEN, UNITS_NO_SUCH_FILE (no entry has the name `main`),
    UNITS_FILE_TOO_LONG, UNITS_DECK_FULL or UNITS_NO_MEMORY; after any but the first the table is as before. Included
@@ -164,8 +175,9 @@ uint32_t units_open(units_table *table, const units_definitions *definitions);
 /* Closes a table and frees its memory. Returns UNITS_DONE, or UNITS_CLOSED if it was not open. */
 uint32_t units_close(units_table *table);
 
-/* Converts: the text is the reply of the program, with its line feeds. Returns UNITS_DONE, UNITS_CONFORMABILITY_ERROR,
-   UNITS_BAD_OPTIONS or the fault. */
+/* Converts: the text is the reply of the program to FROM and TO, with its line feeds. Both are expressions and nothing
+   else: `#` begins no comment, `?` is no question, and a blank TO, which asks the program for the definition of FROM, is
+   a syntax error. Returns UNITS_DONE, UNITS_CONFORMABILITY_ERROR, UNITS_BAD_OPTIONS or the fault. */
 uint32_t units_convert(units_table *table, const uint8_t *from, size_t from_length, const uint8_t *to,
                        size_t to_length, const units_options *options, uint8_t *buffer, size_t size, size_t *length);
 
@@ -179,24 +191,27 @@ uint32_t units_convert_column(units_table *table, const units_column *column, co
                               const units_options *options, uint8_t *buffer, size_t size, size_t *length);
 
 /* Evaluates an expression: `number` is its number in terms of base units, and the text its dimension, such as
-   "kg m^2 / s^2", which is empty for a plain number. `number` is set also with UNITS_NO_ROOM. */
+   "kg m^2 / s^2", which is empty for a plain number. `number` is set also if the status is UNITS_NO_ROOM, unless the
+   text is that of a fault. */
 uint32_t units_value(units_table *table, const uint8_t *expression, size_t expression_length, units_number *number,
                      uint8_t *buffer, size_t size, size_t *length);
 
-/* Lists the definitions whose names contain a text, one in a line, as the program's `search`. */
+/* Lists the definitions whose names contain a text, one in a line, as the program's `search`. Each byte of the text
+   counts, also blanks and `#`; the empty text is in each name. Returns UNITS_DONE. */
 uint32_t units_search(units_table *table, const uint8_t *text, size_t text_length, uint8_t *buffer, size_t size,
                       size_t *length);
 
-/* Adds a definition line, as the program's `:define`. */
+/* Adds a definition line, as the program's `:define`, but `#` begins no comment. Returns UNITS_DONE or the fault. */
 uint32_t units_define(units_table *table, const uint8_t *line, size_t line_length, uint8_t *buffer, size_t size,
                       size_t *length);
 
 /* Removes the last active definition of a key, written as for the program's `:drop`: `ft`, `kilo-`, `tempF()` or
-   `!unitlist hms`. */
+   `!unitlist hms`, without blanks around it. Returns UNITS_DONE, UNITS_BAD_KEY or UNITS_NO_SUCH_DEFINITION. */
 uint32_t units_drop(units_table *table, const uint8_t *key, size_t key_length, uint8_t *buffer, size_t size,
                     size_t *length);
 
-/* Undoes the last edit, and redoes the last undone edit. */
+/* Undoes the last edit, and redoes the last undone edit. Returns UNITS_DONE, UNITS_NOTHING_TO_UNDO or
+   UNITS_NOTHING_TO_REDO. */
 uint32_t units_undo(units_table *table, uint8_t *buffer, size_t size, size_t *length);
 uint32_t units_redo(units_table *table, uint8_t *buffer, size_t size, size_t *length);
 

@@ -259,6 +259,53 @@ static void rooms(units_table *table) {
           == UNITS_SYNTAX_ERROR, "a text with a zero byte");
 }
 
+/* Texts that the program reads otherwise, because they are more than an expression there. */
+static void session_texts(units_table *table) {
+    convert(table, &exact, "ft", " ", UNITS_SYNTAX_ERROR, "syntax error at 0\n");
+    convert(table, &exact, "ft", "?", UNITS_UNKNOWN_UNIT, "unknown unit: ?\n");
+    convert(table, &exact, "ft # x", "m", UNITS_SYNTAX_ERROR, "syntax error at 3\n");
+    convert(table, &exact, ":undo", "m", UNITS_UNKNOWN_UNIT, "unknown unit: :undo\n");
+    expect("define #", units_define(table, TEXT("x 3 m # note"), buffer, sizeof buffer, &length), UNITS_SYNTAX_ERROR,
+           "syntax error at 4");
+    expect("drop #", units_drop(table, TEXT("ft # x"), buffer, sizeof buffer, &length), UNITS_BAD_KEY,
+           "bad key: ft # x");
+    expect("search #", units_search(table, TEXT("mil#e"), buffer, sizeof buffer, &length), UNITS_DONE,
+           "no matching names\n");
+}
+
+/* Whether each byte of the buffer from this place on is as `convert` has filled it. */
+static int is_unwritten(size_t from) {
+    while (from < ROOM && buffer[from] == 'x') from++;
+    return from == ROOM;
+}
+
+/* What a call leaves after the text, in a buffer that is too short, and in none. */
+static void untouched_memory(units_table *table) {
+    units_table closed = UNITS_TABLE;
+    units_options bad = {.digits = 37};
+    convert(table, &exact, "3 ft", "m", UNITS_DONE, "1143|1250\n");
+    check(is_unwritten(10), "the bytes after a text");
+    convert(table, &exact, "yard", "m", UNITS_UNKNOWN_UNIT, "unknown unit: yard\n");
+    check(is_unwritten(19), "the bytes after a fault");
+    convert(table, &bad, "m", "m", UNITS_BAD_OPTIONS, "");
+    check(is_unwritten(0), "the buffer after bad options");
+    convert(&closed, &exact, "m", "m", UNITS_CLOSED, "");
+    check(is_unwritten(0), "the buffer of a closed table");
+    uint32_t status = units_convert(table, TEXT("3 ft"), TEXT("m"), &exact, buffer, 9, &length);
+    check(status == UNITS_NO_ROOM && length == 10 && is_unwritten(0), "a buffer that is too short by one byte");
+    status = units_convert(table, TEXT("3 ft"), TEXT("m"), &exact, NULL, 0, &length);
+    check(status == UNITS_NO_ROOM && length == 10, "the length of a reply");
+    status = units_search(table, TEXT("mil"), NULL, 0, &length);
+    check(status == UNITS_NO_ROOM && length == strlen("\tmile\t5280 ft\n"), "the length of a search");
+    status = units_define(table, TEXT("x 3 m"), NULL, 0, &length);
+    check(status == UNITS_DONE && length == 0, "an edit without a buffer");
+    status = units_undo(table, NULL, 0, &length);
+    check(status == UNITS_DONE && length == 0, "an undo without a buffer");
+    units_number number = {9, 9, 9, 9, 9};
+    status = units_value(table, TEXT("1/0"), &number, NULL, 0, &length);
+    check(status == UNITS_NO_ROOM && length == 16 && number.negative == 9, "the number of a fault");
+}
+
 static units_entry entry(const char *name, const char *content) {
     return (units_entry){(const uint8_t *)name, strlen(name), (const uint8_t *)content, strlen(content)};
 }
@@ -283,6 +330,8 @@ static void openings(void) {
     columns(&table);
     edits(&table);
     rooms(&table);
+    session_texts(&table);
+    untouched_memory(&table);
     deep_calls(&table);
     check(units_close(&table) == UNITS_DONE, "to close");
     check(units_close(&table) == UNITS_CLOSED, "to close again");

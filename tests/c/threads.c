@@ -1,5 +1,5 @@
-/* Four threads, each with its own table, convert, evaluate and edit at the same time. The last line is
-   `N passed, M failed`. */
+/* Four threads, each with its own table, convert, evaluate and edit at the same time. Then they take turns with one
+   table. The last line is `N passed, M failed`. */
 #include "units.h"
 
 #include <pthread.h>
@@ -42,14 +42,39 @@ static void convert_column(worker *own, units_table *table, const char *number, 
     check(own, status == UNITS_DONE && length == strlen(answer) && memcmp(buffer, answer, length) == 0);
 }
 
-static void *work(void *at) {
-    worker *own = at;
+static uint32_t open_table(units_table *table) {
     units_entry file = {UNITS_TEXT("main"), (const uint8_t *)text, strlen(text)};
     units_definitions definitions = {UNITS_TEXT("main"), &file, 1, NULL, 0, UNITS_NO_TEXT, UNITS_NO_TEXT};
+    return units_open(table, &definitions);
+}
+
+static units_table shared = UNITS_TABLE;
+static pthread_mutex_t turn = PTHREAD_MUTEX_INITIALIZER;
+
+/* Edits and asks the shared table, in turns with the other threads. */
+static void *share(void *at) {
+    worker *own = at;
+    uint8_t buffer[64];
+    size_t length;
+    for (int i = 0; i < rounds; i++) {
+        char answer[64], line[64];
+        snprintf(line, sizeof line, "own %d m", i + 1);
+        snprintf(answer, sizeof answer, "%d\n", i + 1);
+        pthread_mutex_lock(&turn);
+        check(own, units_define(&shared, (const uint8_t *)line, strlen(line), buffer, sizeof buffer, &length)
+              == UNITS_DONE);
+        convert(own, &shared, "own", "m", answer);
+        pthread_mutex_unlock(&turn);
+    }
+    return NULL;
+}
+
+static void *work(void *at) {
+    worker *own = at;
     units_table table = UNITS_TABLE;
     uint8_t buffer[64];
     size_t length;
-    check(own, units_open(&table, &definitions) == UNITS_DONE);
+    check(own, open_table(&table) == UNITS_DONE);
     for (int i = 0; i < rounds; i++) {
         char from[64], answer[64], line[64];
         unsigned n = own->number * 1000 + (unsigned)i % 1000 + 1;
@@ -70,18 +95,27 @@ static void *work(void *at) {
     return NULL;
 }
 
-int main(int count, char **words) {
+/* Runs the threads, and returns how many of them got a wrong answer. */
+static int run_threads(void *(*act)(void *)) {
     worker workers[THREADS] = {0};
     int failed = 0;
-    if (count > 1) rounds = atoi(words[1]);
     for (unsigned i = 0; i < THREADS; i++) {
         workers[i].number = i;
-        if (pthread_create(&workers[i].thread, NULL, work, &workers[i]) != 0) return 2;
+        if (pthread_create(&workers[i].thread, NULL, act, &workers[i]) != 0) exit(2);
     }
     for (int i = 0; i < THREADS; i++) {
         pthread_join(workers[i].thread, NULL);
         failed += workers[i].wrong != 0;
     }
-    printf("%d passed, %d failed\n", THREADS - failed, failed);
+    return failed;
+}
+
+int main(int count, char **words) {
+    if (count > 1) rounds = atoi(words[1]);
+    int failed = run_threads(work);
+    if (open_table(&shared) != UNITS_DONE) return 2;
+    failed += run_threads(share);
+    if (units_close(&shared) != UNITS_DONE) return 2;
+    printf("%d passed, %d failed\n", 2 * THREADS - failed, failed);
     return failed != 0;
 }

@@ -1,8 +1,13 @@
 #!/usr/bin/env bash
 # Tries tools/release/c_archive.sh in scratch repositories of two small crates, with a toolchain that counts its builds:
 # when it builds the archive, when it takes one of an earlier run, and what it leaves after a failure. The last line is
-# `N passed, M failed`.
+# `N passed, M failed`, or `N passed, M failed, K skipped`.
 set -u
+if ! [ -e /dev/fd/0 ]; then
+    echo 'check_c_archive: everything is skipped, since c_archive.sh needs /dev/fd, and so /proc'
+    echo '0 passed, 0 failed, 1 skipped'
+    exit
+fi
 script=$(readlink -f "${BASH_SOURCE[0]}") || exit
 root=${script%/*/*/*}
 folder=$(mktemp -d)
@@ -19,6 +24,7 @@ RT
 cat > kit/bin/rattle << RATTLE
 #!/bin/sh
 echo build >> "$folder/builds"
+if [ -e "$folder/slow" ]; then sleep 1; fi
 if [ -e "$folder/refuses" ]; then echo not proved; exit 1; fi
 for last; do :; done
 cat src/lib.rt > "\$last"
@@ -121,6 +127,18 @@ fi
 rm -r two/crates/units_c/out
 cache=/dev/null/cache expect 'a cache that cannot be made' 0 1 two
 cache=/dev/null/cache expect 'the same again' 0 0 two
+rm -r two/crates/units_c/out
+touch slow
+: > builds
+for _ in 1 2; do PATH=$folder/kit/bin:$PATH XDG_CACHE_HOME=/dev/null/cache two/tools/release/c_archive.sh > /dev/null & done
+wait
+if [ "$(wc -l < builds)" = 1 ]; then
+    passed=$((passed + 1))
+else
+    failed=$((failed + 1))
+    echo "check_c_archive: two runs at the same time: $(wc -l < builds) builds instead of 1"
+fi
+rm slow
 rm -r two/crates/low/out
 expect 'without a library' 3 0 two
 path=/usr/bin:/bin expect 'without a toolchain' 127 0 one

@@ -1,9 +1,10 @@
 #!/usr/bin/env bash
 # Builds the C library and the Python package from the crates that bin/test proved, and tests them: the calls from C,
-# with the static and the shared library, under valgrind, in four threads, and with each allocation refused; the Python
-# package with both back ends; its wheel; the examples of docs/C_AND_PYTHON.md; and 2,000 random questions and columns
-# of 2,000 random numbers, which C, Python and the program have to answer alike. A test that needs a missing package, or
-# a library that bin/test did not build, is named and skipped. The last line is `N passed, M failed, K skipped`.
+# with the static and the shared library, under valgrind, on a stack of the stated size, in four threads, and with each
+# allocation refused; the Python package with both back ends; its wheel; the examples of docs/C_AND_PYTHON.md and
+# docs/TOUR.md; and 2,000 random questions and columns of 2,000 random numbers, which C, Python and the program have to
+# answer alike. A test that needs a missing package, or a library that bin/test did not build, is named and skipped. The
+# last line is `N passed, M failed, K skipped`.
 # shellcheck disable=SC2016,SC2317 # literal backquotes; functions that `step` calls
 set -u
 script=$(readlink -f "${BASH_SOURCE[0]}") || exit
@@ -14,16 +15,18 @@ trap 'rm -rf "$work"' EXIT
 passed=0 failed=0 skipped=0
 
 # step NAME COMMAND WORD..: runs one check, which passes if the command ends with status 0. If its last line is
-# `N passed, M failed`, these numbers are added instead.
+# `N passed, M failed` or `N passed, M failed, K skipped`, these numbers are added instead.
 step() {
     local name=$1 status last
     shift
     "$@" > "$work/log" 2>&1 < /dev/null
     status=$?
     last=$(tail -n 1 "$work/log")
-    if [[ $last =~ ^([0-9]+)\ passed,\ ([0-9]+)\ failed$ ]]; then
+    if [[ $last =~ ^([0-9]+)\ passed,\ ([0-9]+)\ failed(,\ ([0-9]+)\ skipped)?$ ]]; then
         passed=$((passed + BASH_REMATCH[1]))
         failed=$((failed + BASH_REMATCH[2]))
+        skipped=$((skipped + ${BASH_REMATCH[4]:-0}))
+        grep ': skipped: ' "$work/log"
         if [ "$status" = 0 ] && [ "${BASH_REMATCH[2]}" = 0 ]; then return 0; fi
         if [ "${BASH_REMATCH[2]}" = 0 ]; then failed=$((failed + 1)); fi
     elif [ "$status" = 0 ]; then
@@ -94,6 +97,8 @@ step 'the calls, shared' "$work/calls_shared"
 step 'C with each allocation refused' compile "$work/refusals" tests/c/refusals.c "$static" \
     -Wl,--wrap=malloc,--wrap=realloc
 step 'refused allocations' "$work/refusals"
+step 'C on a small stack' compile "$work/stack" tests/c/stack.c "$static" -pthread
+step 'the stated stack' "$work/stack"
 step 'C with threads' compile "$work/threads" tests/c/threads.c "$static" -pthread
 step 'four threads' "$work/threads" 2000
 step 'C with ThreadSanitizer' compile "$work/threads_tsan" tests/c/threads.c "$static" -pthread -fsanitize=thread
@@ -104,7 +109,9 @@ else
     skip 'the header in C++' 'there is no command g++'
 fi
 if has pkg-config; then
-    in_pkg_config() { [ "$(PKG_CONFIG_PATH=$work/units/lib/pkgconfig pkg-config --modversion units)" = 1.0.0 ]; }
+    in_pkg_config() {
+        [ "$(PKG_CONFIG_PATH=$work/units/lib/pkgconfig pkg-config --variable=includedir libunits | xargs realpath)" = "$include" ]
+    }
     step 'pkg-config' in_pkg_config
 else
     skip 'pkg-config' 'there is no command pkg-config'
@@ -122,8 +129,7 @@ program=$(tools/built.sh units) || failed=$((failed + 1))
 export EXACT_UNITS_LIBRARY=$shared EXACT_UNITS_PROGRAM=$program PYTHONPATH=$root/lib/python PYTHONDONTWRITEBYTECODE=1
 # Debian's Python has numpy and pandas if they are installed.
 python=$(command -v /usr/bin/python3 || command -v python3)
-python_tests() { "$python" -W error::ResourceWarning -m unittest discover -s lib/python/tests; }
-step 'the Python package' python_tests
+step 'the Python package' "$python" tools/checks/check_python.py
 if has pyflakes3; then
     step 'pyflakes' pyflakes3 lib/python tools/release/wheel.py tools/comparisons/compare_c_*.py
 else
@@ -131,16 +137,15 @@ else
 fi
 if has mypy; then step 'mypy' mypy --strict lib/python/exact_units; else skip 'mypy' 'there is no command mypy'; fi
 
-# Two builds of the wheel are equal, and the unpacked wheel works with each back end.
+# Two builds of the wheel are equal, its tag names the glibc that it needs, and it works with each back end.
 wheel_works() (
     for folder in first second; do
-        wheel=$(tools/release/wheel.py "$work/$folder" --program "$program" --library "$shared" --bundle-program) \
-            || return
+        wheel=$(tools/release/wheel.py "$work/$folder" --library "$shared") || return
     done
     cmp "$work/first/${wheel##*/}" "$wheel" || return
     mkdir "$work/unpacked" && python3 -m zipfile -e "$wheel" "$work/unpacked" || return
-    chmod +x "$work/unpacked/exact_units/units"
-    cd "$work/unpacked" && env -u EXACT_UNITS_LIBRARY -u EXACT_UNITS_PROGRAM PYTHONPATH="$work/unpacked" python3 - <<'PYTHON'
+    [ "$(nm -D --undefined-only "$shared" | sed -n 's/.*@GLIBC_//p' | sort -V | tail -n 1)" = 2.14 ] || return
+    cd "$work/unpacked" && env -u EXACT_UNITS_LIBRARY PYTHONPATH="$work/unpacked" python3 - <<'PYTHON'
 import hashlib
 from base64 import urlsafe_b64encode
 from pathlib import Path
@@ -149,7 +154,7 @@ from exact_units import Units
 
 for backend in ("library", "session", "auto"):
     with Units(backend=backend) as units:
-        assert str(units.convert("3 ft", "m")) == "1143/1250", backend
+        assert str(units.convert("60 mph", "km/h")) == "301752/3125", backend
 (record,) = Path().glob("*.dist-info/RECORD")
 rows = dict(row.rsplit(",", 2)[:2] for row in record.read_text().splitlines())
 files = {str(path) for path in Path().rglob("*") if path.is_file()}
@@ -161,14 +166,15 @@ PYTHON
 )
 step 'the wheel' wheel_works
 
-# The C program in the document, and the Python examples.
+# The C program in a document.
 example_works() {
-    sed -n '/^```c$/,/^```$/p' docs/C_AND_PYTHON.md | sed '/^```/d' > "$work/example.c" || return
+    sed -n '/^```c$/,/^```$/p' "$1" | sed '/^```/d' > "$work/example.c" || return
     compile "$work/example" "$work/example.c" "$static" || return
-    diff <("$work/example") <(sed -n '/^```output$/,/^```$/p' docs/C_AND_PYTHON.md | sed '/^```/d') || return
-    python3 -m doctest docs/C_AND_PYTHON.md
+    diff <("$work/example") <(sed -n '/^```output$/,/^```$/p' "$1" | sed '/^```/d')
 }
-step 'the examples' example_works
+step 'the C example' example_works docs/C_AND_PYTHON.md
+step 'the C example of the tour' example_works docs/TOUR.md
+step 'the Python examples' python3 -m doctest docs/C_AND_PYTHON.md
 step 'random questions' tools/comparisons/compare_c_library.py --units "$work/units" --questions 2000
 step 'random columns' tools/comparisons/compare_c_columns.py --units "$work/units" --numbers 2000
 finish

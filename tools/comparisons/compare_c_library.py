@@ -25,7 +25,7 @@ GNU = Path("/usr/share/units/definitions.units")
 sys.path.insert(0, str(ROOT / "lib" / "python"))
 
 from exact_units import Units, UnitsError  # noqa: E402
-from exact_units.library import _read_with_includes  # noqa: E402
+from exact_units.definition_files import files_of_path  # noqa: E402
 
 
 Answers = Tuple[bytes, bytes]
@@ -180,7 +180,7 @@ def main() -> int:
     arguments = parser.parse_args()
     definitions = str(arguments.definitions)
     program = subprocess.run([ROOT / "tools" / "built.sh", "units"], stdout=subprocess.PIPE, text=True, check=True)
-    files = _read_with_includes(definitions.encode())
+    files = files_of_path(definitions).texts
     pairs = questions(arguments.questions, arguments.seed, names_in(files))
     wrong = 0
     with tempfile.TemporaryDirectory() as name:

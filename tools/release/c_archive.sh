@@ -49,7 +49,7 @@ is_current() {
 below=() direct=()
 while IFS=: read -r head names; do
     if [ "${head%% *}" = "$crate" ]; then read -ra direct <<< "$names"; else below+=("$head"); fi
-done < <(lines_of "$crate")
+done <<< "$(lines_of "$crate")"
 for name in "${below[@]}"; do
     if ! is_current "$name"; then
         echo "c_archive: crates/$name/out/rlib/$name.rlib is missing, or a source of $name is newer: run bin/test" >&2
@@ -83,6 +83,9 @@ cache_archive() (
 )
 
 mkdir -p "$out"
+# Two checks may ask for the archive at the same time; the second one waits for that of the first.
+exec 9> "$out/lock"
+flock 9
 inputs=$(print_inputs)
 cached=$cache/$(sha256sum <<< "$inputs" | cut -d ' ' -f 1)
 if has_archive || { cp "$cached/lib$crate.a" "$cached/made_from" "$out" 2> /dev/null && has_archive; }; then

@@ -1,10 +1,11 @@
 //! Conversion of one column of a text of records.
 
-ghost use Rattle.std.specs.Prelude.{◌≡◌, ◌≤◌, IfSome, None, length};
+ghost use Rattle.std.specs.Prelude.{◌≡◌, ◌≤◌, IfSome, None};
 ghost use Rattle.edited_table.specs.Statuses.{status_code};
 ghost use Rattle.edited_table.specs.TableValue.{c_query_table};
 ghost use Rattle.edited_table.specs.declared.status.Status.TheVariants as statuses;
 ghost use Rattle.units_c.specs.Columns as spec;
+ghost use Rattle.units_c.specs.Delivery.{IsNothingHandedToC};
 ghost use Rattle.units_c.specs.Options.{c_reply_options};
 ghost use Rattle.units_c.specs.Tables.{IsCTableAnswered, IsCTableUnedited};
 
@@ -40,9 +41,11 @@ pub extern "C" fn units_convert_column(
 ) -> u32
     ensures answer { 1 ≤ column.now.number → IfSome (c_reply_options options.now) (λ o.
         IsCTableAnswered table.old.handle.held (λ e. spec.c_column_answer (c_query_table e) o column.now text.now)
-        (length out.old) result written.new out.new) }
-    ensures options { c_reply_options options.now ≡ None → result ≡ status_code statuses.BadOptions }
-    ensures number { column.now.number ≡ 0 → result ≡ status_code statuses.BadOptions }
+        out.old result written.new out.new) }
+    ensures options { c_reply_options options.now ≡ None →
+        IsNothingHandedToC (status_code statuses.BadOptions) result written.new out.old out.new }
+    ensures number { column.now.number ≡ 0 →
+        IsNothingHandedToC (status_code statuses.BadOptions) result written.new out.old out.new }
     ensures unedited { IsCTableUnedited table.old.handle.held table.new.handle.held }
 {
     *written = 0;

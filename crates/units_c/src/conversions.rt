@@ -1,10 +1,11 @@
 //! Conversions.
 
-ghost use Rattle.std.specs.Prelude.{◌≡◌, IfSome, None, length};
+ghost use Rattle.std.specs.Prelude.{◌≡◌, IfSome, None};
 ghost use Rattle.edited_table.specs.Answers as spec;
 ghost use Rattle.edited_table.specs.Statuses.{status_code};
 ghost use Rattle.edited_table.specs.TableValue.{c_query_table};
 ghost use Rattle.edited_table.specs.declared.status.Status.TheVariants as statuses;
+ghost use Rattle.units_c.specs.Delivery.{IsNothingHandedToC};
 ghost use Rattle.units_c.specs.Options.{c_reply_options};
 ghost use Rattle.units_c.specs.Tables.{IsCTableAnswered, IsCTableUnedited};
 
@@ -28,8 +29,9 @@ pub extern "C" fn units_convert(
 ) -> u32
     ensures answer { IfSome (c_reply_options options.now) (λ o. IsCTableAnswered table.old.handle.held
         (λ e. spec.c_conversion_answer (c_query_table e) o from.now to.now)
-        (length out.old) result written.new out.new) }
-    ensures options { c_reply_options options.now ≡ None → result ≡ status_code statuses.BadOptions }
+        out.old result written.new out.new) }
+    ensures options { c_reply_options options.now ≡ None →
+        IsNothingHandedToC (status_code statuses.BadOptions) result written.new out.old out.new }
     ensures unedited { IsCTableUnedited table.old.handle.held table.new.handle.held }
 {
     *written = 0;

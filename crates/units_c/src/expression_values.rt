@@ -1,6 +1,6 @@
 //! Values of expressions.
 
-ghost use Rattle.std.specs.Prelude.{◌≡◌, ◌≢◌, IfOk, IfSome, length};
+ghost use Rattle.std.specs.Prelude.{◌≡◌, ◌≢◌, IfOk, IfSome};
 ghost use Rattle.edited_table.specs.Answers as spec;
 ghost use Rattle.edited_table.specs.Statuses.{status_code};
 ghost use Rattle.edited_table.specs.TableValue.{c_definitions_of, c_query_table};
@@ -27,7 +27,7 @@ pub extern "C" fn units_value(
 ) -> u32
     ensures answer { IsCTableAnswered table.old.handle.held
         (λ e. spec.c_value_answer spec.c_exact_options (spec.c_value_of (c_query_table e) expression.now))
-        (length out.old) result written.new out.new }
+        out.old result written.new out.new }
     ensures number { result ≢ status_code statuses.NoMemory → IfSome table.old.handle.held
         (λ e. HasCNumber number.new (spec.c_value_of (c_query_table e) expression.now)) }
     ensures unedited { IsCTableUnedited table.old.handle.held table.new.handle.held }

@@ -1,6 +1,5 @@
 //! Searches.
 
-ghost use Rattle.std.specs.Prelude.{length};
 ghost use Rattle.edited_table.specs.TableValue.{c_query_table};
 ghost use Rattle.edited_table.specs.declared.status.Status.TheVariants as statuses;
 ghost use Rattle.survey.specs.Searches.{search_report as report};
@@ -23,7 +22,7 @@ pub extern "C" fn units_search(
 ) -> u32
     ensures answer { IsCTableAnswered table.old.handle.held
         (λ e. record { status = statuses.Done; text = report (c_query_table e) text.now })
-        (length out.old) result written.new out.new }
+        out.old result written.new out.new }
     ensures unedited { IsCTableUnedited table.old.handle.held table.new.handle.held }
 {
     *written = 0;

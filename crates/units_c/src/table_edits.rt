@@ -1,6 +1,6 @@
 //! Edits of an open table. A refused edit changes nothing, nor does an edit that runs out of memory.
 
-ghost use Rattle.std.specs.Prelude.{◌≡◌, [], codes, length};
+ghost use Rattle.std.specs.Prelude.{◌≡◌, [], codes};
 ghost use Rattle.def_lines.specs.Blanks.{trimmed_of_blanks};
 ghost use Rattle.deck.specs.Edits.{deck_after_defining};
 ghost use Rattle.def_entry.specs.Keys.{key_of_spelling};
@@ -27,7 +27,7 @@ pub extern "C" fn units_define(
 ) -> u32
     ensures answer { IsCTableAnswered table.old.handle.held
         (λ e. answers.c_table_edit_answer (deck_after_defining (trimmed_of_blanks line.now) e.table.deck) [])
-        (length out.old) result written.new out.new }
+        out.old result written.new out.new }
     ensures edited { spec.LeavesCDeck result
         (λ deck. answers.c_deck_after_edit (deck_after_defining (trimmed_of_blanks line.now) deck) deck)
         table.old.handle.held table.new.handle.held }
@@ -54,7 +54,7 @@ pub extern "C" fn units_drop(
 ) -> u32
     ensures answer { IsCTableAnswered table.old.handle.held
         (λ e. answers.c_drop_answer (answers.c_drop_outcome (key_of_spelling key.now) e.table.deck) key.now)
-        (length out.old) result written.new out.new }
+        out.old result written.new out.new }
     ensures edited { spec.LeavesCDeck result
         (λ deck. answers.c_deck_after_drop (answers.c_drop_outcome (key_of_spelling key.now) deck) deck)
         table.old.handle.held table.new.handle.held }
@@ -79,7 +79,7 @@ pub extern "C" fn units_undo(
 ) -> u32
     ensures answer { IsCTableAnswered table.old.handle.held
         (λ e. turns.c_turn_answer statuses.NothingToUndo (codes "nothing to undo") e.history.done_steps)
-        (length out.old) result written.new out.new }
+        out.old result written.new out.new }
     ensures undone { spec.TurnsCTable turns.IsCEditUndone result table.old.handle.held table.new.handle.held }
 {
     *written = 0;
@@ -101,7 +101,7 @@ pub extern "C" fn units_redo(
 ) -> u32
     ensures answer { IsCTableAnswered table.old.handle.held
         (λ e. turns.c_turn_answer statuses.NothingToRedo (codes "nothing to redo") e.history.undone)
-        (length out.old) result written.new out.new }
+        out.old result written.new out.new }
     ensures redone { spec.TurnsCTable turns.IsCEditRedone result table.old.handle.held table.new.handle.held }
 {
     *written = 0;

@@ -1,4 +1,4 @@
-use Rattle.std.proofs.Common.{length, subst}
+use Rattle.std.proofs.Common.{subst}
 use Rattle.edited_table.specs.TableValue.{EditedTableView}
 use Rattle.edited_table.specs.TurnAnswers.{IsAnsweredCTurn, IsCEditUndone}
 use Rattle.units_c.proofs.Exported.{open_turn}
@@ -7,7 +7,7 @@ use Rattle.units_c.proofs.table_edits.units_undo.Goals as goal
 pub returns-clause-undone : goal.returns-clause-undone
 returns-clause-undone c =
     open_turn c.args.table.now.handle.held c.put.new.self.handle.held c.in-Some.content.value _
-    c.in-Some.ensures.taken c.put.ensures c.answer_undo-answered.result (length c.args.out.now) c.deliver.result
+    c.in-Some.ensures.taken c.put.ensures c.answer_undo-answered.result c.args.out.now c.deliver.result
     c.deliver.new.written c.deliver.new.out c.deliver.ensures.memory c.deliver.ensures.handed IsCEditUndone
     (subst (λ (e : EditedTableView). IsAnsweredCTurn IsCEditUndone c.answer_undo-answered.result e
     c.answer_undo-answered.new.content) c.deref_mut.ensures.value c.answer_undo-answered.ensures.undone)
