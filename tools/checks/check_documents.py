@@ -5,9 +5,11 @@
 
 - The diagram and the list of docs/ARCHITECTURE.md name each product crate of crates.txt exactly once, under the
   heading of its section, and no crate uses one on its own row or a higher one.
-- The version in CHANGELOG.md, the manual pages and release/MADE_FROM is the same.
+- The version in CHANGELOG.md, the manual pages, the citation, the header, the Python package and each file of the
+  release is the same, and so is the date in the first three.
 - Each relative link in a document leads to a file.
-- No document exceeds its limit in LIMITS.
+- The manual pages of units and qunits have each session line that begins with a colon.
+- No document exceeds its limit in LIMITS, and all but tables stay within SUM_LIMIT.
 
 Each fault is printed; the last line is `N passed, M failed`.
 """
@@ -25,11 +27,23 @@ TEST_PROGRAMS = "test programs"
 LIMITS = {
     "README.md": 6 * 1024,
     "CONTRIBUTING.md": 6 * 1024,
-    "docs/ARCHITECTURE.md": 7 * 1024,
-    "docs/DECISIONS.md": 11 * 1024,
+    "docs/ARCHITECTURE.md": 9 * 1024,
+    "docs/DECISIONS.md": 13 * 1024,
     "docs/PROVED.md": 9 * 1024,
     "docs/STYLE.md": 5 * 1024,
+    "docs/TOUR.md": 6 * 1024,
+    "docs/WHY.md": 6 * 1024,
 }
+SUM_LIMIT = 90 * 1024  # of the pages by hand
+TABLES = {"INDEX.md", "SOURCES.md", "TESTED.md"}
+VERSIONS = [
+    ("CITATION.cff", r"^version: (\S+)$"),
+    ("lib/units.h", r'^#define UNITS_VERSION "(\S+)"$'),
+    ("lib/python/exact_units/__init__.py", r'^__version__ = "(\S+)"$'),
+    ("release/MADE_FROM", r"^version (\S+)$"),
+    ("release/libunits.pc", r"^Version: (\S+)$"),
+    ("release/units.html", r'"version": "units (\S+)\. Module'),
+]
 LINK = re.compile(r"\[[^\]]*\]\(([^)#:\s]+)(?:#[^)]*)?\)")
 
 
@@ -104,14 +118,20 @@ def version_in(path: str, pattern: str) -> str | None:
 
 
 def check_versions() -> list[str]:
-    version = version_in("CHANGELOG.md", r"^## \[?(\d+\.\d+\.\d+)")
-    places = {"release/MADE_FROM": r"^version (\S+)$"}
-    for page in sorted((ROOT / "share/man/man1").glob("*.1")):
-        places[str(page.relative_to(ROOT))] = r'^\.TH \S+ \S+ "?\S+?"? "?\S+ (\d+\.\d+\.\d+)"?'
-    versions = {path: version_in(path, pattern) for path, pattern in places.items()}
-    versions = {path: other for path, other in versions.items() if other is None or other != version}
-    faults = [f"{path} has the version {other}, CHANGELOG.md has {version}" for path, other in versions.items()]
-    return faults if version else ["CHANGELOG.md has no version"]
+    heading = re.search(r"^## \[?(\d+\.\d+\.\d+)\]? - (\S+)$", (ROOT / "CHANGELOG.md").read_text(), re.MULTILINE)
+    if not heading:
+        return ["CHANGELOG.md has no version"]
+    pages = sorted(str(page.relative_to(ROOT)) for page in (ROOT / "share/man/man1").glob("*.1"))
+    places = [(page, r'^\.TH \S+ \S+ "\S+" "?\S+ (\d+\.\d+\.\d+)"?') for page in pages] + VERSIONS
+    dates = [(page, r'^\.TH \S+ \S+ "(\S+)"') for page in pages] + [("CITATION.cff", r'^date-released: "(\S+)"$')]
+    faults = [
+        f"{path} has {found}, CHANGELOG.md has {wanted}"
+        for wanted, rows in zip(heading.groups(), (places, dates))
+        for path, pattern in rows
+        if (found := version_in(path, pattern)) != wanted
+    ]
+    wheels = [wheel.name.split("-")[1] for wheel in (ROOT / "release").glob("*.whl")]
+    return faults if wheels == [heading[1]] else [*faults, f"release/ has the wheels {wheels}, not one of {heading[1]}"]
 
 
 def documents() -> list[Path]:
@@ -133,14 +153,26 @@ def check_links() -> list[str]:
     ]
 
 
+def check_session_lines() -> list[str]:
+    words = re.findall(r'b"(:\w+)"', (ROOT / "crates/session/src/colon_word.rt").read_text())
+    pages = [ROOT / "share/man/man1" / name for name in ("units.1", "qunits.1")]
+    faults = [f"{page.name} lacks {word}" for page in pages for word in words if word not in page.read_text()]
+    return faults if words else ["colon_word.rt has no session line"]
+
+
 def check_sizes() -> list[str]:
     sizes = {path: (ROOT / path).stat().st_size for path in LIMITS if (ROOT / path).exists()}
-    return [f"{path} has {size} bytes, more than {LIMITS[path]}" for path, size in sizes.items() if size > LIMITS[path]]
+    too_long = {path: size for path, size in sizes.items() if size > LIMITS[path]}
+    faults = [f"{path} has {size} bytes, more than {LIMITS[path]}" for path, size in too_long.items()]
+    pages = [page for page in (ROOT / "docs").glob("*.md") if page.name not in TABLES]
+    total = sum(page.stat().st_size for page in [*pages, ROOT / "CONTRIBUTING.md"])
+    return faults + [f"the pages have {total} bytes, more than {SUM_LIMIT}"] * (total > SUM_LIMIT)
 
 
 def main() -> int:
     text = ARCHITECTURE.read_text()
-    results = [check_diagram(text), check_list(text), check_versions(), check_links(), check_sizes()]
+    results = [check_diagram(text), check_list(text), check_versions(), check_links(), check_session_lines()]
+    results.append(check_sizes())
     for faults in results:
         for fault in faults:
             print(f"check_documents: {fault}")

@@ -26,7 +26,7 @@ PAGE = ROOT / "docs/COMING_FROM_GNU.md"
 GNU = "/usr/bin/units"
 DEFINITIONS = Path("/usr/share/units/definitions.units")
 REST = "..."
-SECONDS = 20
+SECONDS = 900  # limit for a run, which only stops one that hangs
 
 
 @dataclass

@@ -33,8 +33,9 @@ expect() {
     fi
 }
 
+# skip REASON CASE
 skip() {
-    echo "check_install: skipped: $2, since $1 is not installed"
+    echo "check_install: skipped: $2, since $1"
     skipped=$((skipped + 1))
 }
 
@@ -54,8 +55,10 @@ unchanged() {
     if [ "$before" != "$(tree "$2")" ]; then echo "check_install: $1: the folder $2 was changed"; fi
 }
 
-as_other() {
-    if [ "$(id -u)" = 0 ]; then setpriv --reuid=65534 --regid=65534 --clear-groups "$@"; else "$@"; fi
+# without_privilege COMMAND WORD..: takes from root the right to read and write any file. The user stays the same, since
+# another user may not reach the repository.
+without_privilege() {
+    if [ "$(id -u)" = 0 ]; then setpriv --bounding-set=-dac_override,-dac_read_search "$@"; else "$@"; fi
 }
 
 # --- arguments ---
@@ -80,27 +83,74 @@ expect 'qunits by a link' 0 '96.56064' 'ln -s .local/bin/qunits $HOME/q; $HOME/q
 expect 'a file of one'\''s own' 0 '*my.units' '$HOME/.local/bin/qunits --new'
 expect '.. which includes the library' 0 '4046.8564' '$HOME/.local/bin/qunits -t acre m^2'
 expect '.. and is removed by its user' 0 '' 'rm -r $HOME/.config'
-expect 'the version of the release' 0 'qunits*' '$HOME/.local/bin/qunits --version'
+version=$(sed -n 's/^version //p' "$root/release/MADE_FROM")
+expect 'the version of the release' 0 "qunits $version" '$HOME/.local/bin/qunits --version'
 if [ -e "$HOME/.local/bin/units-lint" ]; then
     printf 'm !\nab 1 m\nab 2 m\n' > twice.units
     expect 'units-lint' 1 'twice.units:3: *' '$HOME/.local/bin/units-lint twice.units'
+    expect '.. of the same version' 0 "units-lint $version" '$HOME/.local/bin/units-lint --version'
 else
-    skip tools/lint/lint_units.py 'units-lint'
+    skip 'there is no tools/lint/lint_units.py' 'units-lint'
 fi
 if [ -e "$HOME/.local/bin/units-why" ]; then
     expect 'units-why' 0 $'\tDefinition: 0.9144 m\nyard: *' '$HOME/.local/bin/units-why yards'
     expect '.. in qunits' 0 $'*\nyard: *length.units*' '$HOME/.local/bin/qunits --why yards'
     expect '.. for Vim' 0 '' 'grep -q units-why $HOME/.local/share/vim/vimfiles/compiler/units_why.vim'
-    expect '.. for editors' 0 "4" \
-        'grep -l "$HOME/.local/share/units/lsp/units_lsp.py" $HOME/.local/share/units/editors/* | wc -l'
+    expect '.. for editors' 0 '4' \
+        'grep -lE "$HOME/.local/share/units/(editors|lsp)/" -r $HOME/.local/share/units/editors | wc -l'
+    if command -v nvim > /dev/null; then
+        printf 'm !\nbad 3 parsnip\n' > bad.units
+        for editors in "$root/share/editors" "$HOME/.local/share/units/editors"; do
+            expect "Neovim loads $editors" 0 '*unknown unit: parsnip*' 'HOME=$folder nvim --headless --clean \
+                -c "lua dofile(\"$editors/neovim.lua\")" -c "edit bad.units" \
+                -c "lua vim.wait(20000, function() return #vim.diagnostic.get(0) > 0 end, 50)" \
+                -c "lua print(vim.diagnostic.get(0)[1].message)" -c "qa!"'
+        done
+    else
+        skip 'Neovim is not installed' 'the language server in it (2 cases)'
+    fi
+    if command -v emacs > /dev/null; then
+        expect 'Emacs loads its file' 0 "*($HOME/.local/share/units/lsp/units_lsp.py)*" 'emacs --batch -Q \
+            --eval "(progn (defvar eglot-server-programs nil) (provide (quote eglot)))" \
+            -l $HOME/.local/share/units/editors/eglot.el --eval "(princ (cddr (car eglot-server-programs)))"'
+    else
+        skip 'Emacs is not installed' 'its file'
+    fi
     expect 'the language server finds it' 0 '{*capabilities*' 'printf "Content-Length: 58\r\n\r\n%s" \
         "{\"jsonrpc\":\"2.0\",\"id\":1,\"method\":\"initialize\",\"params\":{}}" |
         python3 $HOME/.local/share/units/lsp/units_lsp.py | tail -n 1'
     pages='units qunits units-lint units-why'
 else
-    skip 'the program units_why' 'units-why'
+    skip 'units_why is not built' 'units-why'
     expect 'nothing of it is installed' 0 '' 'find $HOME/.local -name "*why*" -o -name lsp -o -name editors'
     pages='units qunits units-lint'
+fi
+expect 'the page' 0 '' 'cmp $HOME/.local/share/doc/units/units.html $root/release/units.html'
+if [ -e "$HOME/.local/lib/libunits.so.1" ]; then
+    sed -n '/^```c$/,/^```$/p' "$root/docs/C_AND_PYTHON.md" | sed '/^```/d' > example.c
+    compile='gcc -o example example.c $(pkg-config --cflags --libs libunits)'
+    if command -v gcc > /dev/null && command -v pkg-config > /dev/null; then
+        expect 'a C program over the release' 0 '1143|1250' "PKG_CONFIG_PATH=\$root/release; export PKG_CONFIG_PATH
+            $compile && ./example"
+        expect '.. over the install' 0 '1143|1250' 'PKG_CONFIG_PATH=$HOME/.local/lib/pkgconfig; export PKG_CONFIG_PATH
+            '"$compile"' && ./example'
+        expect '.. over the shared library' 0 '1143|1250' 'gcc -o example -I$HOME/.local/include example.c \
+            -L$HOME/.local/lib -l:libunits.so.1 && LD_LIBRARY_PATH=$HOME/.local/lib ./example'
+    else
+        skip 'gcc or pkg-config is not installed' 'a C program over the release, and over the install (3 cases)'
+    fi
+    for wheel in "$root"/release/*.whl "$HOME"/.local/share/units/python/*.whl; do
+        if HOME=$folder python3 -m venv venv 2> /dev/null; then
+            expect "pip install $wheel" 0 '*Successfully installed*' 'HOME=$folder venv/bin/pip install --no-index $wheel'
+            expect '.. mph' 0 301752/3125 \
+                'venv/bin/python -c "from exact_units import Units; print(Units().convert(\"60 mph\", \"km/h\"))"'
+            rm -r venv
+        else
+            skip 'python3 has no venv' "pip install $wheel (2 cases)"
+        fi
+    done
+else
+    skip 'the C library is not built' 'the C library and the Python package'
 fi
 expect 'the modes' 0 '' 'find $HOME/.local -type d ! -perm 755
     find $HOME/.local -type f ! -perm 644 ! -path "*/bin/*" ! -name import_gnu.sh'
@@ -108,7 +158,7 @@ for page in $pages; do
     if command -v man > /dev/null; then
         expect "the page of $page" 0 "*$page - *" "man -M \$HOME/.local/share/man $page"
     else
-        skip man "the page of $page"
+        skip 'man is not installed' "the page of $page"
     fi
 done
 expect 'documents that the pages name' 0 '' 'grep -ohE "[^ ]*/share/doc/[^ ]*[.]md" $HOME/.local/share/man/man1/* |
@@ -148,11 +198,14 @@ rm -r "$HOME/.local"
 
 # --- an install that fails changes nothing ---
 mkdir -p open/bin open/share/man
-if [ "$(id -u)" = 0 ]; then chown -R 65534:65534 open; fi
 chmod a-w open/share/man
 chmod a+rx "$folder"
-unchanged 'a folder that cannot be written' open 1 '*cannot write to*open/share/man*nothing was installed*' \
-    'as_other "$install" --prefix $folder/open'
+if without_privilege test -r "$install" && ! without_privilege test -w open/share/man; then
+    unchanged 'a folder that cannot be written' open 1 '*cannot write to*open/share/man*nothing was installed*' \
+        'without_privilege "$install" --prefix $folder/open'
+else
+    skip 'root cannot give up its right to write there' 'a folder that cannot be written'
+fi
 unchanged 'a disk that is full' "$HOME" 1 '*nothing was installed*' '(ulimit -f 200; $install)'
 mkdir path
 printf '#!/bin/sh\necho x >> %q\nif [ "$(wc -l < %q)" = 30 ]; then kill -TERM $PPID; fi\nexec %q "$@"\n' \
@@ -196,7 +249,7 @@ expect '.. in the page' 0 '.TH EXACT-UNITS 1 *' 'grep "^[.]TH" $stage/usr/share/
 if command -v lexgrog > /dev/null; then
     expect '.. in its heading' 0 '*exact-units - *' 'lexgrog $stage/usr/share/man/man1/exact-units.1'
 else
-    skip man-db 'the heading of the page'
+    skip 'man-db is not installed' 'the heading of the page'
 fi
 mkdir -p gnu/usr/bin
 echo gnu > gnu/usr/bin/units

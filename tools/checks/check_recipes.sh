@@ -1,5 +1,6 @@
 #!/usr/bin/env bash
-# Runs the recipes of docs/COLUMNS.md and the examples of README.md as transcripts (see tools/checks/transcripts.py).
+# Runs the recipes of docs/COLUMNS.md and the examples of README.md, docs/TOUR.md and docs/WHY.md as transcripts (see
+# tools/checks/transcripts.py).
 #
 #     tools/checks/check_recipes.sh
 #
@@ -75,11 +76,11 @@ start_server() {
 
 # is_usable NAME: whether a program that a block needs is available.
 is_usable() {
-    if [ "$1" = ssh ]; then
-        [ -e "$folder/programs/ssh" ] || start_server
-    else
-        command -v "$1" > /dev/null
-    fi
+    case $1 in
+        ssh) [ -e "$folder/programs/ssh" ] || start_server ;;
+        units-why) "$root/bin/units-why" m > /dev/null 2>&1 ;;
+        *) command -v "$1" > /dev/null ;;
+    esac
 }
 
 # usable_part PAGE: prints the page without the blocks that need a missing program.
@@ -91,6 +92,8 @@ usable_part() {
             for name in ${line#'```console'}; do
                 if ! is_usable "$name"; then missing=$name; fi
             done
+        elif [[ $line = '```'?* ]]; then
+            missing=shell # code of another language
         elif [[ $line = '```' ]]; then
             missing=
         elif [[ $missing && $line = '  $ '* ]]; then
@@ -102,13 +105,13 @@ usable_part() {
 }
 
 pages=()
-for page in docs/COLUMNS.md README.md; do
+for page in docs/COLUMNS.md docs/TOUR.md docs/WHY.md README.md; do
     usable_part "$root/$page" > "$folder/${page##*/}"
     if grep -q '^  \$ ' "$folder/${page##*/}"; then pages+=("$folder/${page##*/}"); fi
 done
 if [ -e "$folder/skipped" ]; then skipped=$(wc -l < "$folder/skipped"); fi
 PATH=$folder/programs:$PATH "$root/tools/checks/transcripts.py" "${pages[@]}" > "$folder/log"
 sed '$d' "$folder/log"
-read -r passed _ failed _ more _ < <(tail -n 1 "$folder/log" | tr -d ,)
+read -r passed _ failed _ more _ <<< "$(tail -n 1 "$folder/log" | tr -d ,)"
 echo "$passed passed, $failed failed, $((skipped + more)) skipped"
 [ "$failed" = 0 ]

@@ -35,6 +35,8 @@ HEADLINE = [
     Name("units_run", "Openings", "first_plan_text_on_err"),
     Name("units_run", "Needs", "run_needs_definitions"),
     Name("session", "HeardLines", "HeardInputNamesNoFile"),
+    Name("stream_run", "StreamRuns", "IsProcessRun"),
+    Name("stream_run", "StreamRuns", "PrintsRun"),
 ]
 QUOTED = re.compile(r"`([^`]+)`")
 MOST_BYTES = 10 * 1024

@@ -22,7 +22,7 @@ RECORDS = ROOT / "docs/tested.tsv"
 PAGE = ROOT / "docs/TESTED.md"
 HEAD = """# What is tested
 
-Written by `tools/checks/tested.py` from `docs/tested.tsv`; do not edit. [PROVED.md](PROVED.md) has what is proved. Expected values come from rules worked out by hand, printed tables or another program, never from the program itself. A blank result is: no difference.
+Written by `tools/checks/tested.py` from `docs/tested.tsv`; do not edit. [PROVED.md](PROVED.md) has what is proved. Expected values come from rules worked out by hand, printed tables or another program, never from the program itself. Blank means no difference.
 
 ## By `bin/check` and `bin/test`
 

@@ -10,8 +10,9 @@ line that ends in ` (no-eol)` has no line feed, ` (glob)` allows `*` and `?`, an
 
 The commands of a file run in one shell, in a new folder, with empty input. The proved programs of the repository and
 the scripts of bin/ are on its PATH. BUILTIN is a file with the built-in definitions, LIBRARY is the standard library of
-definitions. Each difference is shown. A file that uses a program that is not built is named and skipped. The last line
-is `N passed, M failed, K skipped`, which counts cases.
+definitions, CLONE the top of the repository. Each difference is shown. A file that uses a program that is not built is
+named and skipped; if that leaves no file, the run has failed. The last line is `N passed, M failed, K skipped`, which
+counts cases.
 """
 
 import difflib
@@ -35,7 +36,8 @@ LIBRARY = ROOT / "share/units/standard.units"
 BUILT = ROOT / "tools/built.sh"
 # The commands of bin/ other than units, each with the program that it runs.
 COMMANDS = {"qunits": "units", "units-lint": "units", "units-why": "units_why"}
-SECONDS = 120  # limit for the commands of a file
+BUILD_FIRST = "run bin/check --try, which builds the programs without proofs, or bin/test, which proves them"
+SECONDS = 900  # limit for the commands of a file, which only stops a run that hangs
 INDENT = b"  "
 UNPRINTABLE = re.compile(rb"[\x00-\x09\x0b-\x1f\x7f-\xff]")
 STATUS = re.compile(rb"\[[0-9]+\]\n?")
@@ -168,6 +170,17 @@ def absent_programs(cases, missing):
     return sorted(words & missing)
 
 
+def used_programs():
+    """The programs that all transcripts and examples use, in the order of crates.txt."""
+    names = set(names_of_programs())
+    used = {name for file in all_files() for name in absent_programs(read_cases(file.read_bytes())[1], names)}
+    return [name for name in names_of_programs() if name in used]
+
+
+def all_files():
+    return [*sorted(TESTS.glob("*.t")), *sorted(MANUAL.glob("*.1"))]
+
+
 def built_in():
     """The built-in definitions: the only literal of their file, in which each backslash is doubled."""
     literal = re.search(rb' = b"(.*?)^";$', BUILT_IN.read_bytes(), re.DOTALL | re.MULTILINE)
@@ -183,6 +196,8 @@ def run_shell(script, room, path):
         "PATH": f"{path}:{os.environ.get('PATH', os.defpath)}",
         "BUILTIN": str(path.parent / "builtin.units"),
         "LIBRARY": str(LIBRARY),
+        "CLONE": str(ROOT),
+        "PYTHONDONTWRITEBYTECODE": "1",
         "HOME": str(work),
         "TMPDIR": str(work),
         "LANG": "C",
@@ -266,7 +281,7 @@ def run_file(file, path, unbuilt):
 
 def main():
     files = [Path(word).resolve() for word in sys.argv[1:]]
-    files = files or [*sorted(TESTS.glob("*.t")), *sorted(MANUAL.glob("*.1"))]
+    files = files or all_files()
     total = Report()
     with tempfile.TemporaryDirectory(prefix="transcripts-") as folder:
         path = Path(folder) / "programs"
@@ -282,6 +297,9 @@ def main():
                 total.skipped += report.skipped
     if not files:
         print(f"no transcripts in {TESTS}")
+        total.failed = 1
+    elif not total.passed and not total.failed:
+        print(f"no case ran: {BUILD_FIRST}")
         total.failed = 1
     print(f"{total.passed} passed, {total.failed} failed, {total.skipped} skipped")
     sys.exit(1 if total.failed else 0)
