@@ -38,7 +38,7 @@ prove() {
 
 build() {
     local crates crate place=0
-    mapfile -t crates < <(lines_of "$name" | sed 's/[ :].*//')
+    mapfile -t crates <<< "$(lines_of "$name" | sed 's/[ :].*//')"
     say "proving and building ${#crates[@]} crates; the log is $log"
     : > "$log"
     if [ -e "$program" ]; then cp -p "$program" "$program.before"; fi

@@ -1,10 +1,10 @@
 #!/usr/bin/env bash
-# Prints the path of a proved program of the present sources: the one that was built here, or else, for `units`, the
-# released one. If there is neither, it prints one line on standard error that names the command to build one. It never
-# builds anything.
-#   tools/built.sh NAME            for checks, which preload code into the program
-#   tools/built.sh --static NAME   for users: of `units`, the released static program, which starts faster, if the release
-#                                  is of the present sources. bin/units runs this program
+# Prints the path of a proved program of the present sources: the one that was built here, or else, for `units` and
+# `units_why`, the released static one. If there is neither, it prints one line on standard error that names the command
+# to build one. It never builds anything.
+#   tools/built.sh NAME            for checks, which preload code into a program that was built here
+#   tools/built.sh --static NAME   for users: the released program, which starts faster, if it is of the present sources.
+#                                  bin/units and bin/units-why run this program
 # Statuses: 126 if the program has to be built, 127 if the toolchain for that is not installed either.
 set -u
 script=$(readlink -f "${BASH_SOURCE[0]}") || exit
@@ -14,48 +14,54 @@ for_users=no
 if [ "$1" = --static ]; then for_users=yes && shift; fi
 name=$1
 out=$root/crates/$name/out
-released=release/units-x86_64-linux
+released=release/${name//_/-}-x86_64-linux-static
 # One second before the first read, so that every later change has a later time.
 since=$(($(date +%s) - 1))
 
-has_release() { [ "$name" = units ] && "$root/tools/release/release.sh" --check > /dev/null; }
+has_release() { [ -x "$root/$released" ] && "$root/tools/release/release.sh" --check "$name" > /dev/null; }
 
 # find_program: prints the program, relative to the top of the repository.
 find_program() {
-    if [ "$for_users" = yes ] && [ -x "$root/$released-static" ] && has_release; then
-        echo "$released-static"
+    if [ "$for_users" = yes ] && has_release; then
+        echo "$released"
     elif is_built "$name"; then
         echo "crates/$name/out/$name"
-    elif has_release; then
+    elif [ "$for_users" = no ] && has_release; then
         echo "$released"
     else
         return 1
     fi
 }
 
-# record PROGRAM: lets bin/units run this program at once, as long as its code and its statements do not change. Proofs
-# are left out: they are two thirds of the files, and affect neither the program nor the statements proved of it. If the
-# record cannot be written, bin/units calls this script each time.
+# record PROGRAM: lets the command run this program at once, as long as its code and its statements do not change. Proofs
+# are left out: they are two thirds of the files, and affect neither the program nor the statements proved of it. Only the
+# status of a file shows that it was edited, so each is looked at; a list of them costs find half as many system calls as
+# their folders. If there is no record, the command calls this script each time.
 record() {
-    local folder sources=(crates.txt)
+    local LC_ALL=C folder folders list sources=(crates.txt)
     if [ -d "$root/release" ]; then sources+=(release); fi
-    while read -r folder; do
+    mapfile -t folders <<< "$(folders_of "$name")"
+    for folder in "${folders[@]}"; do
         if [[ $folder != */proofs ]]; then sources+=("$folder"); fi
-    done < <(folders_of units)
-    mkdir -p "$out" 2> /dev/null || return 0
-    printf '%s\n' "$since" "$1" "${sources[*]}" 2> /dev/null > "$out/current.$$" && mv "$out/current.$$" "$out/current"
+    done
+    list=$(cd "$root" && find "${sources[@]}" ! -path "$1") || return 0
+    # A shell would read other characters in a name as more than the name.
+    if [[ $list = *[!a-zA-Z0-9_./$'\n'-]* ]] || ! mkdir -p "$out" 2> /dev/null; then return 0; fi
+    {
+        printf 'export LC_ALL=C\nexec find %s %s -prune ' "${list//$'\n'/ }" "$1"
+        printf '\\( -newerct @%s -quit -o -path %s -print \\)\n' "$since" "$1"
+    } 2> /dev/null > "$out/current.$$" && mv "$out/current.$$" "$out/current.sh"
 }
 
 if program=$(find_program); then
-    if [ "$for_users" = yes ] && [ "$name" = units ]; then record "$program"; fi
+    if [ "$for_users" = yes ]; then record "$program"; fi
     echo "$root/$program"
     exit
 fi
-why='no program is built from these sources' build="tools/build.sh $name"
-if [ "$name" = units ]; then
-    build=tools/build.sh
-    if [ -e "$root/$released" ]; then why='the released program is not of these sources'; fi
-fi
+why='no program is built from these sources'
+if [ -e "$root/$released" ]; then why='the released program is not of these sources'; fi
+build=tools/build.sh
+if [ "$name" != units ]; then build+=" $name"; fi
 if command -v rt > /dev/null; then
     echo "$name: $why; $build proves and builds one (an hour or more from nothing)" >&2
     exit 126

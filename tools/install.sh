@@ -3,9 +3,10 @@
 #        tools/install.sh --uninstall [--prefix PREFIX] [--name NAME] [--force]
 #        tools/install.sh --help
 #
-# Installs the program, qunits, units-lint, the library, manual pages, documents, examples, completions for bash, zsh
-# and fish, and files for Vim under PREFIX, which is ~/.local by default. If units-why is built, it is installed too,
-# with its manual page, the language server and the files for editors.
+# Installs under PREFIX, which is ~/.local by default: the programs units, qunits, units-why and units-lint, the library of
+# units, the C library, the Python package (PREFIX/share/NAME/python/*.whl, for pip), the page for a browser, manual
+# pages, documents, examples, completions for bash, zsh and fish, the language server, and files for Vim and other editors
+# (PREFIX/share/NAME/editors).
 #
 #   --name NAME   the name of the program, its manual page and its folders; units by default
 #   --setup       have your bash, zsh and Vim load the files too, if they do not search PREFIX
@@ -18,6 +19,7 @@
 # All files are checked and copied before the first one is put in place. The status is 0 if everything was done, 1 if
 # nothing was, and 2 for wrong arguments.
 set -euo pipefail
+# SPDX-License-Identifier: MIT OR Apache-2.0
 umask 022
 script=$(readlink -f "${BASH_SOURCE[0]}")
 root=${script%/*/*}
@@ -70,10 +72,11 @@ read_list() {
         esac
     done < "$destdir$list"
     for place in "${!sum_of[@]}"; do
-        if [ -f "$destdir$place" ] && [ ! -L "$destdir$place" ]; then present+=("$place"); fi
+        if [ -f "$destdir$place" ] && [ -r "$destdir$place" ] && [ ! -L "$destdir$place" ]; then present+=("$place"); fi
     done
     if [ "${#present[@]}" = 0 ]; then return; fi
-    mapfile -d '' -t sums < <(sha256sum -z -- "${present[@]/#/$destdir}")
+    sha256sum -z -- "${present[@]/#/$destdir}" > "$work/sums"
+    mapfile -d '' -t sums < "$work/sums"
     for at in "${!present[@]}"; do sum_now[${present[at]}]=${sums[at]%% *}; done
 }
 
@@ -128,7 +131,8 @@ unstage() {
 write_list() {
     local at folder sums
     for folder in ${folders[@]+"${folders[@]}"} ${new_folders[@]+"${new_folders[@]}"}; do echo "folder $folder"; done
-    mapfile -d '' -t sums < <(sha256sum -z -- "${sources[@]}")
+    sha256sum -z -- "${sources[@]}" > "$work/sums"
+    mapfile -d '' -t sums < "$work/sums"
     for at in "${!places[@]}"; do echo "file ${sums[at]%% *} ${places[at]}"; done
 }
 

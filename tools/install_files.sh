@@ -1,4 +1,5 @@
 # shellcheck shell=bash disable=SC2154 # tools/install.sh sets root, prefix, name and work, and reads this file
+# SPDX-License-Identifier: MIT OR Apache-2.0
 # The files that tools/install.sh installs: the arrays modes, sources and places have one element for each.
 modes=() sources=() places=()
 
@@ -50,7 +51,7 @@ add_programs() {
     program=$("$root/tools/built.sh" --static units) || give_up 'there is no program to install'
     add 755 "$program" "$prefix/bin/$name"
     add_edited 755 "$root/bin/qunits" "$prefix/bin/qunits" "s/^name=units .*/name=$name/"
-    add_all 644 "$prefix/share/qunits" "$root/share/qunits/functions.sh" "$root/share/qunits/first.units"
+    add_all 644 "$prefix/share/qunits" "$root"/share/qunits/{functions,terminal}.sh "$root/share/qunits/first.units"
     if [ -e "$root/tools/lint/lint_units.py" ]; then
         add_edited 755 "$root/bin/units-lint" "$prefix/bin/units-lint" "s/^name=units .*/name=$name/"
         add_all 644 "$prefix/share/$name/lint" "$root"/tools/lint/{lint_units,unit_answers,unit_files,unit_names}.py
@@ -62,10 +63,27 @@ add_units_why() {
     local file server=$prefix/share/$name/lsp/units_lsp.py
     add 755 "$units_why" "$prefix/bin/units-why"
     add 644 "$root/tools/units_lsp.py" "$server"
+    add 644 "$root/tools/units_lsp_files.py" "${server%/*}/units_lsp_files.py"
     for file in "$root"/share/editors/*; do
         add_edited 644 "$file" "$prefix/share/$name/editors/${file##*/}" \
-            "s#(/usr/local/share/units/lsp|\btools)/units_lsp\.py#$(as_replacement "$server")#g"
+            "s#(/usr/local/share/units/lsp|\btools)/units_lsp\.py#$(as_replacement "$server")#g
+             s#/usr/local/share/units/editors#$(as_replacement "$prefix/share/$name/editors")#g"
     done
+}
+
+# has_c_library: whether the repository has the released C library of its present sources; a tarball has no sources.
+has_c_library() {
+    [ -e "$root/release/libunits.so.1" ] \
+        && { ! [ -e "$root/tools/release/release.sh" ] || "$root/tools/release/release.sh" --check units_c > /dev/null; }
+}
+
+# add_c_library: adds the C library, and the wheel of the Python package, which has a copy of it.
+add_c_library() {
+    add_all 644 "$prefix/lib" "$root"/release/libunits.{a,so.1}
+    add 644 "$root/lib/units.h" "$prefix/include/units.h"
+    add_edited 644 "$root/release/libunits.pc" "$prefix/lib/pkgconfig/libunits.pc" \
+        "s#^includedir=.*#includedir=\${pcfiledir}/../../include#; s#^libdir=.*#libdir=\${pcfiledir}/..#"
+    add_all 644 "$prefix/share/$name/python" "$root"/release/*.whl
 }
 
 add_library() {
@@ -75,7 +93,7 @@ add_library() {
 
 # add_pages: adds the manual pages, with the installed names of the program and its documents.
 add_pages() {
-    local page place_edits edits man=$root/share/man/man1
+    local page pages place_edits edits man=$root/share/man/man1
     place_edits="s#\\bdocs/([A-Z_]+\\.md)#$(as_roff "$prefix/share/doc/$name/docs")/\\1#g
         s#\\btools/import_gnu\\.sh#$(as_roff "$prefix/share/$name")/import_gnu.sh#g"
     edits=$place_edits
@@ -96,9 +114,10 @@ add_pages() {
         add_edited 644 "$man/units-why.1" "$prefix/share/man/man1/units-why.1" "$place_edits
             s#^(\\.BR? )units( \\(1\\)| \\\\)#\\1$(as_roff "$name")\\2#"
     fi
-    while read -r page; do
+    mapfile -t pages <<< "$(grep -ohE '\bdocs/[A-Z_]+\.md' "$man"/*.1 | sort -u)"
+    for page in "${pages[@]}"; do
         add 644 "$root/$page" "$prefix/share/doc/$name/$page"
-    done < <(grep -ohE '\bdocs/[A-Z_]+\.md' "$man"/*.1 | sort -u)
+    done
 }
 
 add_documents() {
@@ -107,6 +126,8 @@ add_documents() {
         if [ -e "$root/$file" ]; then add_all 644 "$prefix/share/doc/$name" "$root/$file"; fi
     done
     add_all 644 "$prefix/share/doc/$name/examples" "$root"/examples/*
+    add 644 "$root/release/units.html" "$prefix/share/doc/$name/units.html"
+    add 644 "$root/docs/C_AND_PYTHON.md" "$prefix/share/doc/$name/docs/C_AND_PYTHON.md"
 }
 
 # add_completions: adds the completions. Each file is for all commands, and is installed under the name of each.
@@ -135,11 +156,12 @@ add_vim_files() {
 }
 
 collect_files() {
-    # If units-why is not built, neither it nor its files are installed.
-    units_why=$("$root/tools/built.sh" units_why 2> /dev/null) || units_why=
+    # The release may be of other sources than the program that is built here.
+    units_why=$("$root/tools/built.sh" --static units_why 2> /dev/null) || units_why=
     add_programs
-    if [ "$units_why" ]; then add_units_why; fi
+    if [ "$units_why" ]; then add_units_why; else say 'units-why is left out: it is not built'; fi
     add_library
+    if has_c_library; then add_c_library; else say 'the C library and the Python package are left out: they are not built'; fi
     add_pages
     add_documents
     add_completions

@@ -13,7 +13,7 @@ packages=(
     # packages and recipes
     lintian debootstrap parallel openssh-server pv miller
     # comparisons with other programs
-    units python3-pint time
+    units python3-pint qalc time
     # memory checks of the C library
     valgrind mypy python3-numpy python3-pandas pkg-config
     # the static program

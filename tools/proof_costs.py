@@ -4,8 +4,8 @@
     tools/proof_costs.py CRATE [COUNT]
 
 Proves the crate from nothing in one process, over the libraries that `rt ci` built, which takes some minutes. Then it
-prints a line for each part of the proofs and one for each of the COUNT dearest functions and files of lemmas (30 by
-default), with the seconds by the clock: run it on an idle machine. The dearest part of a function follows. `Lts` is the
+prints a line for each part of the proofs and one for each of the COUNT slowest functions and files of lemmas (30 by
+default), with the seconds by the clock: run it on an idle machine. The slowest part of a function follows. `Lts` is the
 evidence of the borrow checker, half of all time. It grows with the statements times the values alive, so it falls if a
 function is split, above all where `?` leaves it while vectors or tables are alive. `Proof` has the goals: answer the slow
 ones by hand.
@@ -58,16 +58,16 @@ def modules_in(crate: str, folder: Path, begin: float) -> list[Module]:
 
 
 def print_costs(modules: list[Module], count: int) -> None:
-    parts, owners, dearest = Counter(), Counter(), {}
+    parts, owners, slowest = Counter(), Counter(), {}
     for module in modules:
         parts[module.part] += module.seconds
         owners[module.owner] += module.seconds
-        dearest[module.owner] = max(dearest.get(module.owner, module), module, key=lambda it: it.seconds)
+        slowest[module.owner] = max(slowest.get(module.owner, module), module, key=lambda it: it.seconds)
     for part, seconds in parts.most_common():
         print(f"{seconds:8.1f}  {part}")
     print()
     for owner, seconds in owners.most_common(count):
-        print(f"{seconds:8.1f}  {owner} ({dearest[owner].part} {dearest[owner].seconds:.1f})")
+        print(f"{seconds:8.1f}  {owner} ({slowest[owner].part} {slowest[owner].seconds:.1f})")
 
 
 def main(words: list[str]) -> int:

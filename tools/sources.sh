@@ -1,6 +1,7 @@
 # shellcheck shell=bash
 # shellcheck disable=SC2154 # root
-# Functions on the sources of a program, for scripts that have the top of the repository in `root`.
+# Functions on the sources of a program, for scripts that have the top of the repository in `root`. They use no process
+# substitution, since that needs /dev/fd, and a bare root may have no /proc.
 
 # lines_of NAME: prints the lines of crates.txt for the crate and those below it, the lowest first.
 lines_of() {
@@ -17,19 +18,23 @@ lines_of() {
     ' "$root/crates.txt"
 }
 
-# folders_of NAME: prints the folders with their sources, relative to the top of the repository.
+# folders_of NAME [PART..]: prints the folders with their sources, relative to the top of the repository; by default all
+# parts, `src specs proofs`.
 folders_of() {
-    local crate part
-    while IFS=': ' read -r crate _; do
-        for part in src specs proofs; do
+    local crate name=$1 part
+    shift
+    if [ $# -eq 0 ]; then set -- src specs proofs; fi
+    lines_of "$name" | while IFS=': ' read -r crate _; do
+        for part; do
             if [ -d "$root/crates/$crate/$part" ]; then echo "crates/$crate/$part"; fi
         done
-    done < <(lines_of "$1")
+    done
 }
 
-# sum_of_sources NAME: prints one checksum of those lines and of the names and bytes of all files in those folders.
+# sum_of_sources NAME [PART..]: prints one checksum of those lines and of the names and bytes of all files in those
+# folders.
 sum_of_sources() (
-    mapfile -t folders < <(folders_of "$1")
+    mapfile -t folders <<< "$(folders_of "$@")"
     cd "$root" && {
         lines_of "$1"
         find "${folders[@]}" -type f -print0 | LC_ALL=C sort -z | xargs -0 sha256sum
@@ -39,7 +44,7 @@ sum_of_sources() (
 # is_outdated FILE NAME: whether a source is newer than the file.
 is_outdated() {
     local folders
-    mapfile -t folders < <(folders_of "$2")
+    mapfile -t folders <<< "$(folders_of "$2")"
     [ -n "$(cd "$root" && find "${folders[@]}" -newer "$1" -print -quit)" ]
 }
 

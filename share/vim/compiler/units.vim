@@ -1,3 +1,4 @@
+" SPDX-License-Identifier: MIT OR Apache-2.0
 " Reports on definition files: `:make` runs the check. `:setlocal makeprg=units-lint\ %:S` makes it run the linter.
 if exists('current_compiler') | finish | endif
 let current_compiler = 'units'

@@ -1,3 +1,4 @@
+" SPDX-License-Identifier: MIT OR Apache-2.0
 " Settings for definition files of units.
 if exists('b:did_ftplugin') | finish | endif
 let b:did_ftplugin = 1

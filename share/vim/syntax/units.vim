@@ -1,3 +1,4 @@
+" SPDX-License-Identifier: MIT OR Apache-2.0
 " Syntax of definition files of units.
 if exists('b:current_syntax') | finish | endif
 syntax case match
