@@ -250,7 +250,8 @@ Faults of values and of texts. The first fault is the whole reply.
   syntax error at 0
   [1]
 
-Names of 15, 16, 17 and 255 bytes: in one product, and asked for again after edits of one of them.
+Names of 15 and 16 bytes, which are stored inline, and of 17 and 255 bytes, which are not: in one product, and asked for
+again after edits of one of them.
 
   $ name() { printf "%$2s" | tr ' ' "$1"; }
   $ for n in 15 16 17 255; do echo "$(name a $n) !"; done > long.units

@@ -494,7 +494,7 @@ The two gallons of the built-in definitions, to and fro. In another locale there
   43 units, 18 prefixes, 4 functions, 2 lists, 72 lines, 0 notices
 
 `define` of an entry that exists, of a new entry for an old key, of each kind of key, and of lines that are no
-definitions. A line is trimmed, and has the number 0. Two entries are equal exactly if their texts are.
+definitions. A line is trimmed, and has the number 0. Two entries are equal if and only if their texts are.
 
   $ printf 'm !\na 2 m\n' > u.units
   $ test_calls decks <<'END'

@@ -250,8 +250,8 @@ Long lines.
   1: a | body | m m m m m m
   1 lines, 0 refused
 
-Two entries of one key are equal exactly if their texts are. Of each three lines, the first two are equal, and the third
-differs.
+Two entries of one key are equal if and only if their texts are. Of each three lines, the first two are equal, and the
+third differs.
 
   $ test_calls entries <<'END'
   > a 2 m
