@@ -1,5 +1,5 @@
 #!/usr/bin/env python3
-"""Compares the program with an earlier release.
+"""Compares the static program with that of an earlier release.
 
     bench/releases.sh [COMMIT]
 
@@ -22,7 +22,7 @@ from dataclasses import dataclass
 from pathlib import Path
 
 ROOT = Path(__file__).resolve().parent.parent
-RELEASE = "release/units-x86_64-linux"
+RELEASE = "release/units-x86_64-linux-static"
 GNU = Path("/usr/share/units/definitions.units")
 TURNS = 21
 
@@ -98,7 +98,7 @@ def earlier_release() -> str:
 
 def main(words: list[str]) -> int:
     commit = words[0] if words else earlier_release()
-    built = subprocess.run([ROOT / "tools/built.sh", "units"], stdout=subprocess.PIPE, check=True).stdout.decode()
+    built = subprocess.run([ROOT / "tools/built.sh", "--static", "units"], stdout=subprocess.PIPE, check=True).stdout.decode()
     with tempfile.TemporaryDirectory() as name:
         folder = Path(name)
         earlier = folder / "units"
