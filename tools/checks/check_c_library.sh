@@ -52,7 +52,7 @@ finish() {
     exit
 }
 
-has() { command -v "$1" > /dev/null; }
+has() { type -P "$1" > /dev/null; }
 
 for command in gcc rt ar objcopy python3; do
     if ! has "$command"; then

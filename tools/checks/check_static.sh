@@ -37,7 +37,7 @@ expect() {
     fi
 }
 
-has() { command -v "$1" > /dev/null; }
+has() { type -P "$1" > /dev/null; }
 
 # add_last_line: adds the counts in the last line of a check. Shows the whole output if something failed.
 add_last_line() {
