@@ -80,6 +80,7 @@ QUICK = [
     Check("sources", ("tools/checks/lint_sources.py",)),
     Check("definitions", ("tools/checks/definitions.py",)),
     Check("public calls", ("tools/checks/check_surface.py",)),
+    Check("changed statements", ("tools/checks/check_clauses.py",)),
     Check("documents", ("tools/checks/check_documents.py",)),
     Check("pictures", ("tools/draw_pictures.py", "--check"), runs_program=True),
     Check("record of tests", ("tools/checks/tested.py",)),
