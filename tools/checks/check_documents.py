@@ -131,6 +131,10 @@ def check_versions() -> list[str]:
         for path, pattern in rows
         if (found := version_in(path, pattern)) != wanted
     ]
+    major, minor, patch = map(int, heading[1].split("."))
+    number = version_in("lib/units.h", r"^#define UNITS_VERSION_NUMBER (\d+)$")
+    if number != str(1000000 * major + 1000 * minor + patch):
+        faults.append(f"lib/units.h has the number {number}, CHANGELOG.md has {heading[1]}")
     wheels = [wheel.name.split("-")[1] for wheel in (ROOT / "release").glob("*.whl")]
     return faults if wheels == [heading[1]] else [*faults, f"release/ has the wheels {wheels}, not one of {heading[1]}"]
 
