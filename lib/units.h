@@ -19,8 +19,8 @@
    nothing and keeps nothing outside the table. It needs malloc, realloc, free, memcpy, memmove and memset.
 
    The caller has to guarantee:
-   - No pointer is null, except `buffer` if `size` is 0, and a pointer of a units_definitions to no bytes or entries.
-     Memory that a call writes overlaps nothing else that the call gets.
+   - No pointer is null, except the table of units_close, `buffer` if `size` is 0, and a pointer of a units_definitions
+     to no bytes or entries. Memory that a call writes overlaps nothing else that the call gets.
    - A table begins as UNITS_TABLE, or with all bytes zero. It is not copied or moved while it is open.
    - A table is used by one thread at a time. If threads take turns, a lock orders their calls. Different tables may be
      used by different threads at the same time.
@@ -38,8 +38,9 @@
 extern "C" {
 #endif
 
-/* The version of this header, and of the library that it was released with. */
+/* The version of this header: as a text, and as a number, 1,000,000 * major + 1,000 * minor + patch. */
 #define UNITS_VERSION "1.1.0"
+#define UNITS_VERSION_NUMBER 1001000
 
 /* The stack that a call may take, in bytes. */
 #define UNITS_STACK_SIZE 1572864
@@ -172,7 +173,8 @@ typedef struct units_number {
    definitions. */
 uint32_t units_open(units_table *table, const units_definitions *definitions);
 
-/* Closes a table and frees its memory. Returns UNITS_DONE, or UNITS_CLOSED if it was not open. */
+/* Closes a table and frees its memory. Returns UNITS_DONE, or UNITS_CLOSED if it was not open. NULL is no open table, so
+   a call with it does nothing. */
 uint32_t units_close(units_table *table);
 
 /* Converts: the text is the reply of the program to FROM and TO, with its line feeds. Both are expressions and nothing
@@ -214,6 +216,11 @@ uint32_t units_drop(units_table *table, const uint8_t *key, size_t key_length, u
    UNITS_NOTHING_TO_REDO. */
 uint32_t units_undo(units_table *table, uint8_t *buffer, size_t size, size_t *length);
 uint32_t units_redo(units_table *table, uint8_t *buffer, size_t size, size_t *length);
+
+/* The version of the library, which may be newer than the header: UNITS_VERSION and UNITS_VERSION_NUMBER of its own
+   header. */
+const char *units_version(void);
+uint32_t units_version_number(void);
 
 #ifdef __cplusplus
 }

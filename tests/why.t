@@ -722,6 +722,30 @@ A file that cannot be read twice. If it includes no file, its lines have places;
   yd: unit, 0.9144 m = 0.9144 m [?]
     m: unit, ! = 1 m [?]
 
+The version. The other words are not looked at, and no file is opened.
+
+  $ units_why --version
+  units-why *.*.* (glob)
+  $ units_why -V --lint -f absent.units -d 37 m
+  units-why *.*.* (glob)
+  $ units_why --version > /dev/full
+  [5]
+  $ units_why --version --nothing
+  units-why: usage: units-why [options] EXPRESSION [UNIT], or units-why --lint [options]
+  [2]
+  $ units_why --version -V
+  units-why: usage: units-why [options] EXPRESSION [UNIT], or units-why --lint [options]
+  [2]
+
+The built-in definitions by name, which no file may be named beside.
+
+  $ why --built-in inch | head -n 2
+  \tDefinition: in = 0.0254 m (esc)
+  inch: unit, in = 0.0254 m [builtin:49]
+  $ units_why --built-in -f whole.units m
+  units-why: usage: units-why [options] EXPRESSION [UNIT], or units-why --lint [options]
+  [2]
+
 Refused arguments, and files that cannot be read or written.
 
   $ units_why

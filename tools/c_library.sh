@@ -1,7 +1,7 @@
 #!/usr/bin/env bash
-# Makes the C library from the proved crate units_c, which tools/release/c_archive.sh compiles: a static library, a
-# shared library, the header and a pkg-config file. They include the heap of the toolchain, so programs need only the C
-# library of the system, glibc 2.14 or later.
+# Makes the C library from the proved crate units_c, which tools/release/c_archive.sh compiles, and lib/units.c: a static
+# library, a shared library, the header and a pkg-config file. They include the heap of the toolchain, so programs need
+# only the C library of the system, glibc 2.14 or later.
 #   tools/c_library.sh FOLDER    after bin/test. FOLDER gets include/units.h, lib/{libunits.a,libunits.so,libunits.so.1}
 #                                and lib/pkgconfig/libunits.pc
 #   tools/c_library.sh --parts   prints the part of the system that is used
@@ -31,6 +31,13 @@ cp "$root/lib/units.h" "$folder/include/units.h"
 sed "s#^includedir=.*#includedir=\${pcfiledir}/../../include#; s#^libdir=.*#libdir=\${pcfiledir}/..#" \
     "$root/release/libunits.pc" > "$folder/lib/pkgconfig/libunits.pc"
 
+# The calls that are C. The toolchain has a compiler, but not the two headers that units.h needs.
+printf '#define NULL ((void *)0)\ntypedef __SIZE_TYPE__ size_t;\n' > "$work/stddef.h"
+printf 'typedef __UINT%s_TYPE__ uint%s_t;\n' 8 8 32 32 64 64 > "$work/stdint.h"
+"$kit/toolchain/bin/clang" --target=x86_64-unknown-linux-gnu --no-default-config -nostdinc -isystem "$work" -std=c11 -O2 \
+    -march=x86-64 -fPIC -fno-stack-protector -Wall -Wextra -Werror -c "$root/lib/units.c" -o "$work/c.o"
+objcopy --redefine-sym units_close=units_close_table "$archive" "$work/proved.a"
+
 # One object in which only the calls are visible, so that a program may define functions with the same names as the
 # heap. One section for all code is a tenth smaller than one for each function.
 cat > "$work/sections" << 'END'
@@ -42,8 +49,8 @@ SECTIONS {
     .bss : { *(.bss .bss.*) }
 }
 END
-"${link[@]}" -r -T "$work/sections" --whole-archive "$archive" "$kit/c/liblibc_c.a" -o "$work/units.o"
-nm -g --defined-only "$work/units.o" | sed -n 's/.* T \(units_[a-z_]*\)$/\1/p' > "$work/calls"
+"${link[@]}" -r -T "$work/sections" "$work/c.o" --whole-archive "$work/proved.a" "$kit/c/liblibc_c.a" -o "$work/units.o"
+nm -g --defined-only "$work/units.o" | sed -n 's/.* T \(units_[a-z_]*\)$/\1/p' | grep -vx units_close_table > "$work/calls"
 objcopy --keep-global-symbols="$work/calls" --strip-unneeded --remove-section=.llvm_addrsig "$work/units.o"
 rm -f "$static"
 "$kit/toolchain/bin/llvm-ar" rcsD "$static" "$work/units.o"

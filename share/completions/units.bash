@@ -61,7 +61,8 @@ _units_words() {
         --column --header --trial'
     case ${1##*/} in
         qunits) options+=' --why --names --new --help --version' ;;
-        units-why) options='--digits --exact --json --file --locale --overlay --lint --captures --unused' ;;
+        units-why) options='--digits --exact --json --file --built-in --locale --overlay --lint --captures --unused
+            --version' ;;
         units-lint) options='--help --version --statuses --dimensions --locale --program' ;;
     esac
     case ${1##*/}:$previous in

@@ -62,11 +62,13 @@ complete -c units-why -s d -l digits -x -d 'Significant digits, 1 to 36'
 complete -c units-why -l exact -d 'Numbers as n or n|d'
 complete -c units-why -l json -d 'One JSON object a line'
 complete -c units-why -s f -l file -r -F -d 'Definition file'
+complete -c units-why -l built-in -d 'The few definitions of the program itself'
 complete -c units-why -s l -l locale -x -a 'en_US en_GB' -d Locale
 complete -c units-why -l overlay -x -d 'NAME=PATH, a file to read in place of another'
 complete -c units-why -l lint -d 'What is found in all definitions'
 complete -c units-why -l captures -d 'With --lint also names that hide other readings'
 complete -c units-why -l unused -d 'With --lint also definitions that nothing uses'
+complete -c units-why -s V -l version -d 'The version'
 
 complete -c units-lint -F
 complete -c units-lint -l help -d 'What is reported'

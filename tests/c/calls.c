@@ -306,6 +306,36 @@ static void untouched_memory(units_table *table) {
     check(status == UNITS_NO_ROOM && length == 16 && number.negative == 9, "the number of a fault");
 }
 
+/* The length of the text of each call that gives one. */
+static void lengths(units_table *table) {
+    units_column column = {TEXT("ft"), TEXT("inch"), 1, 0};
+    units_number number;
+#define LENGTH(call, expected_status, expected, ...) \
+    length = 99; \
+    check(units_##call(table, __VA_ARGS__, NULL, 0, &length) == expected_status && length == (expected), \
+          "the length of " #call)
+    LENGTH(convert, UNITS_NO_ROOM, 10, TEXT("3 ft"), TEXT("m"), &exact);
+    LENGTH(convert_column, UNITS_NO_ROOM, 6, &column, TEXT("1\n2\n"), &plain);
+    LENGTH(value, UNITS_NO_ROOM, 1, TEXT("ft"), &number);
+    LENGTH(search, UNITS_NO_ROOM, strlen("\tmile\t5280 ft\n"), TEXT("mil"));
+    LENGTH(define, UNITS_NO_ROOM, strlen("bad definition"), TEXT("x"));
+    LENGTH(drop, UNITS_NO_ROOM, strlen("bad key: 2 span"), TEXT("2 span"));
+#undef LENGTH
+    while (units_undo(table, NULL, 0, &length) == UNITS_DONE) check(length == 0, "the length of an undo");
+    check(length == strlen("nothing to undo"), "the length of a refused undo");
+    while (units_redo(table, NULL, 0, &length) == UNITS_DONE) check(length == 0, "the length of a redo");
+    check(length == strlen("nothing to redo"), "the length of a refused redo");
+}
+
+/* The version of the library is that of its header, as a text and as a number. */
+static void version(void) {
+    char text[32];
+    uint32_t number = units_version_number();
+    snprintf(text, sizeof text, "%u.%u.%u", number / 1000000, number / 1000 % 1000, number % 1000);
+    check(strcmp(units_version(), UNITS_VERSION) == 0 && strcmp(text, UNITS_VERSION) == 0
+          && number == UNITS_VERSION_NUMBER, "the version");
+}
+
 static units_entry entry(const char *name, const char *content) {
     return (units_entry){(const uint8_t *)name, strlen(name), (const uint8_t *)content, strlen(content)};
 }
@@ -317,6 +347,7 @@ static void openings(void) {
     units_definitions definitions = {TEXT("main"), files, 4, variables, 2, TEXT("en_GB"), TEXT("a seed")};
     units_table table = UNITS_TABLE;
     check(units_close(&table) == UNITS_CLOSED, "to close a closed table");
+    check(units_close(NULL) == UNITS_CLOSED, "to close no table");
     expect("a closed table", units_convert(&table, TEXT("m"), TEXT("m"), &exact, buffer, sizeof buffer, &length),
            UNITS_CLOSED, "");
     convert_column(&table, (units_column){TEXT("m"), TEXT("m"), 1, 0}, &plain, "1", UNITS_CLOSED, "");
@@ -332,6 +363,7 @@ static void openings(void) {
     rooms(&table);
     session_texts(&table);
     untouched_memory(&table);
+    lengths(&table);
     deep_calls(&table);
     check(units_close(&table) == UNITS_DONE, "to close");
     check(units_close(&table) == UNITS_CLOSED, "to close again");
@@ -367,6 +399,7 @@ static void refused_openings(void) {
 }
 
 int main(void) {
+    version();
     openings();
     refused_openings();
     printf("%d passed, %d failed\n", passed, failed);

@@ -80,12 +80,11 @@ warnings=(-std=c11 -Wall -Wextra -Werror -O1 -g)
 
 # Only the calls of the header are exported, and only the listed functions of the C library are used.
 are_symbols_right() {
-    diff <(nm -D --defined-only "$shared" | sed -n 's/.* T \([a-z_]*\)@@UNITS_1$/\1/p' | sort) \
-        <(sed -n 's/^uint32_t \(units_[a-z_]*\)(.*/\1/p' "$include/units.h" | sort) || return
+    sed -nE 's/^(uint32_t |const char \*)(units_[a-z_]*)\(.*/\2/p' "$include/units.h" | sort > "$work/calls.txt"
+    nm -D --defined-only "$shared" | sed -n 's/.* T \([a-z_]*\)@@UNITS_1$/\1/p' | sort | diff - "$work/calls.txt" || return
     diff <(nm -D --undefined-only "$shared" | sed -n 's/^ *U \([a-z_]*\)@.*/\1/p' | sort) \
         <(printf '%s\n' free malloc memcpy memmove memset realloc) || return
-    diff <(nm -g --defined-only "$static" | sed -n 's/.* T //p' | sort) \
-        <(sed -n 's/^uint32_t \(units_[a-z_]*\)(.*/\1/p' "$include/units.h" | sort)
+    nm -g --defined-only "$static" | sed -n 's/.* T //p' | sort | diff - "$work/calls.txt"
 }
 step 'symbols' are_symbols_right
 

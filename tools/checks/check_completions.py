@@ -68,6 +68,8 @@ OPTIONS = [
     ("qunits --wh", r"qunits --why "),
     ("qunits --strict --file=la", r"qunits --strict --file=lab\.units "),
     ("units-why --capt", r"units-why --captures "),
+    ("units-why --buil", r"units-why --built-in "),
+    ("units-why --vers", r"units-why --version "),
     ("units-why --lint -f la", r"units-why --lint -f lab\.units "),
     ("units-lint --stat", r"units-lint --statuses "),
     ("units-lint la", r"units-lint lab\.units "),

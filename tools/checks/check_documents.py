@@ -5,8 +5,8 @@
 
 - The diagram and the list of docs/ARCHITECTURE.md name each product crate of crates.txt exactly once, under the
   heading of its section, and no crate uses one on its own row or a higher one.
-- The version in CHANGELOG.md, the manual pages, the citation, the header, the Python package and each file of the
-  release is the same, and so is the date in the first three.
+- The version in CHANGELOG.md, the manual pages, the citation, units-why, the header, the Python package and each file of
+  the release is the same, and so is the date in the first three.
 - Each relative link in a document leads to a file.
 - The manual pages of units and qunits have each session line that begins with a colon.
 - No document exceeds its limit in LIMITS, and all but tables stay within SUM_LIMIT.
@@ -38,6 +38,7 @@ SUM_LIMIT = 90 * 1024  # of the pages by hand
 TABLES = {"INDEX.md", "SOURCES.md", "TESTED.md"}
 VERSIONS = [
     ("CITATION.cff", r"^version: (\S+)$"),
+    ("crates/units_why/src/version.rt", r'^    b"units-why (\S+)\\n"$'),
     ("lib/units.h", r'^#define UNITS_VERSION "(\S+)"$'),
     ("lib/python/exact_units/__init__.py", r'^__version__ = "(\S+)"$'),
     ("release/MADE_FROM", r"^version (\S+)$"),
@@ -130,6 +131,10 @@ def check_versions() -> list[str]:
         for path, pattern in rows
         if (found := version_in(path, pattern)) != wanted
     ]
+    major, minor, patch = map(int, heading[1].split("."))
+    number = version_in("lib/units.h", r"^#define UNITS_VERSION_NUMBER (\d+)$")
+    if number != str(1000000 * major + 1000 * minor + patch):
+        faults.append(f"lib/units.h has the number {number}, CHANGELOG.md has {heading[1]}")
     wheels = [wheel.name.split("-")[1] for wheel in (ROOT / "release").glob("*.whl")]
     return faults if wheels == [heading[1]] else [*faults, f"release/ has the wheels {wheels}, not one of {heading[1]}"]
 

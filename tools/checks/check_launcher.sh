@@ -23,7 +23,7 @@ done
 
 # Two copies of the files that bin/units needs, the second with a release.
 mkdir -p one/crates
-cp -r "$root"/{bin,tools,examples,crates.txt,CHANGELOG.md} one/
+cp -r "$root"/{bin,tools,lib,examples,crates.txt,CHANGELOG.md} one/
 (cd "$root/crates" && tar --exclude=out -cf - ./*/src ./*/specs ./*/proofs) | tar -xf - -C one/crates
 cp -r one two
 mkdir two/release
@@ -128,6 +128,14 @@ else
 fi
 rm -rf three/crates/units/out
 expect 'a release that nobody may write beside' 0 "$answer" '' "$as_other three/bin/units $yard"
+
+expect 'the C library of the present sources' 0 $'release: the files are whole and of the present sources\n' '' \
+    'two/tools/release/release.sh --check units_c'
+for file in units.h units.c; do
+    expect "a C library of another $file" 1 $'release: the release is of other sources of units_c\n' '' \
+        "cp two/lib/$file kept; echo >> two/lib/$file; two/tools/release/release.sh --check units_c; s=\$?
+         cp kept two/lib/$file; (exit \$s)"
+done
 
 # compare: prints the status of a comparison, the names of what is not compared, and its last line.
 compare() {

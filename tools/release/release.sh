@@ -38,6 +38,15 @@ declare -A crate_of=([static]=units [why]=units_why [shared]=units_c [archive]=u
 # The packages of the system that they are made with.
 declare -A package_of=([static]=musl [why]=musl [shared]=binutils [archive]=binutils [wheel]=zlib)
 
+# sum_of_crate CRATE: prints the checksum of the sources of the files that are made of it. The C library has calls in C.
+sum_of_crate() {
+    if [ "$1" != units_c ]; then
+        sum_of_sources "$1"
+        return
+    fi
+    { sum_of_sources "$1" && cat "$root/lib/units.c" "$root/lib/units.h"; } | sha256sum | cut -d ' ' -f 1
+}
+
 sum_of() { sha256sum "$1" | cut -d ' ' -f 1; }
 
 # field WORD: prints the text after this word in MADE_FROM.
@@ -86,7 +95,7 @@ print_made_from() {
     echo "version $(version)"
     echo "toolchain $toolchain"
     echo "program $(sum_of "$root/crates/units/out/units")"
-    for crate in units units_why units_c; do echo "sources-$crate $(sum_of_sources "$crate")"; done
+    for crate in units units_why units_c; do echo "sources-$crate $(sum_of_crate "$crate")"; done
     for part in "${parts[@]}"; do echo "$part $(sum_of "$release/${file_of[$part]}")"; done
     for package in musl binutils zlib; do echo "with-$package $(version_of "$package")"; done
 }
@@ -126,7 +135,7 @@ check() {
         fi
     done
     for crate in ${1:-units units_why units_c}; do
-        if [ "$(sum_of_sources "$crate")" != "$(field "sources-$crate")" ]; then
+        if [ "$(sum_of_crate "$crate")" != "$(field "sources-$crate")" ]; then
             echo "release: the release is of other sources of $crate"
             exit 1
         fi
@@ -151,7 +160,7 @@ skip() {
 # obstacle PART: prints why the file cannot be made again here.
 obstacle() {
     local crate=${crate_of[$1]} package=${package_of[$1]}
-    if [ "$1" != wheel ] && [ "$(sum_of_sources "$crate")" != "$(field "sources-$crate")" ]; then
+    if [ "$1" != wheel ] && [ "$(sum_of_crate "$crate")" != "$(field "sources-$crate")" ]; then
         echo 'it is of other sources'
     elif [ "$crate" != units_c ] && ! [ -e "$root/crates/$crate/out/$crate.o" ]; then
         echo "no program is built here, or rt kept that of an earlier run without its object, crates/$crate/out/$crate.o"
@@ -219,6 +228,6 @@ case "$#${1-}" in
     [12]--check) check "${2-}" ;;
     1--compare) with_folder compare ;;
     1--files) for part in "${parts[@]}"; do echo "$part ${file_of[$part]}"; done ;;
-    2--sources) sum_of_sources "$2" ;;
+    2--sources) sum_of_crate "$2" ;;
     *) sed -n '2,/^set/s/^# \{0,1\}//p' "$script" | head -n -1 >&2; exit 2 ;;
 esac

@@ -16,6 +16,6 @@ pub use examples::{refused_examples, taken_examples};
 pub use fault::WordsFault;
 pub use fields::CommandLine;
 pub use usage::usage_text;
-pub use why_request::{Findings, Inquiry, Overlay, WhyRequest};
+pub use why_request::{Findings, Inquiry, Overlay, WhyCommandLine, WhyRequest};
 pub use why_request_reader::{read_why_words, why_usage_text};
 pub use word_reader::read_words;

@@ -7,6 +7,7 @@ use std::alloc::{AllocError, Global};
 /// The names, letters and forms of the arguments.
 const WHY_ARGUMENTS: &[(&str, Option<char>, Form)] = &[
     ("file", Some('f'), Form::Text),
+    ("built-in", None, Form::Flag),
     ("overlay", None, Form::Texts),
     ("locale", Some('l'), Form::Text),
     ("digits", Some('d'), Form::Text),
@@ -15,6 +16,7 @@ const WHY_ARGUMENTS: &[(&str, Option<char>, Form)] = &[
     ("lint", None, Form::Flag),
     ("captures", None, Form::Flag),
     ("unused", None, Form::Flag),
+    ("version", Some('V'), Form::Flag),
     ("expression", None, Form::Operand),
     ("unit", None, Form::Operand),
 ];
@@ -24,7 +26,7 @@ pub(crate) fn why_command<'a>(alloc: Global) -> Result<Command<'a>, AllocError> 
     with_arguments(alloc, bare_why_command(alloc), WHY_ARGUMENTS)
 }
 
-/// Returns the command without arguments. It accepts no words for help or for the version.
+/// Returns the command without arguments. It accepts no words for help, and none of clap's own for the version.
 fn bare_why_command<'a>(alloc: Global) -> Command<'a> {
     Command::new(alloc, "units-why")
         .no_binary_name(true)

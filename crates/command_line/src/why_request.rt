@@ -2,6 +2,15 @@
 
 use units_io::Text;
 
+/// A command line of `units-why`.
+#[derive(Drop)]
+pub enum WhyCommandLine {
+    /// Print the version.
+    Version,
+    /// Answer a request.
+    Request(WhyRequest),
+}
+
 /// The request in a command line of `units-why`.
 #[derive(Drop)]
 pub struct WhyRequest {

@@ -1,14 +1,14 @@
 //! Reading the words of the command line of `units-why`.
 
 ghost use Rattle.std.specs.Prelude.{◌≡◌, ◌≤◌, IfOk, IfSome};
-ghost use Rattle.command_line.specs.WhyDigits.{HasWhyDigits};
+ghost use Rattle.command_line.specs.WhyDigits.{HasWhyDigits, HasWhyLineDigits};
 ghost use Rattle.command_line.specs.WhyUsage as spec;
 
 use crate::fault::WordsFault;
 use crate::fields::{flag_of, text_of};
 use crate::parse::{fault_from, texts_of};
 use crate::why_command::why_command;
-use crate::why_request::{Findings, Inquiry, Overlay, WhyRequest};
+use crate::why_request::{Findings, Inquiry, Overlay, WhyCommandLine, WhyRequest};
 use clap::ArgMatches;
 use std::alloc::Global;
 use units_io::Text;
@@ -20,15 +20,19 @@ pub fn why_usage_text() -> &'static [u8]
     b"units-why: usage: units-why [options] EXPRESSION [UNIT], or units-why --lint [options]\n"
 }
 
-/// Parses the words after the name of the program. The error is `Usage` if clap rejects them, a word is not UTF-8, the
-/// digits are not a number from 1 to 36, both digits and `--exact` are given, an overlay is not NAME=PATH, not exactly one
-/// of an expression and `--lint` is given, or `--captures` or `--unused` is given without `--lint`.
-pub fn read_why_words(alloc: Global, words: &[Text]) -> Result<WhyRequest, WordsFault>
-    ensures { IfOk result HasWhyDigits }
+/// Parses the words after the name of the program. The error is `Usage` if clap rejects them or a word is not UTF-8.
+/// Unless `--version` is given, it is also `Usage` if both a file and `--built-in` are given, the digits are not a number
+/// from 1 to 36, both digits and `--exact` are given, an overlay is not NAME=PATH, not exactly one of an expression and
+/// `--lint` is given, or `--captures` or `--unused` is given without `--lint`.
+pub fn read_why_words(alloc: Global, words: &[Text]) -> Result<WhyCommandLine, WordsFault>
+    ensures { IfOk result HasWhyLineDigits }
 {
     let texts = texts_of(alloc, words)?;
     let matches = matches_of(alloc, texts.as_slice())?;
-    request_of(alloc, &matches)
+    if flag_of(&matches, "version") {
+        return Ok(WhyCommandLine::Version);
+    }
+    Ok(WhyCommandLine::Request(request_of(alloc, &matches)?))
 }
 
 // Returns the matches of the program's command in these words.
@@ -43,7 +47,7 @@ fn matches_of<'a>(alloc: Global, words: &'a [&'a str]) -> Result<ArgMatches<'a>,
 fn request_of(alloc: Global, matches: &ArgMatches<'_>) -> Result<WhyRequest, WordsFault>
     ensures { IfOk result HasWhyDigits }
 {
-    let file = text_of(alloc, matches, "file")?;
+    let file = file_of(alloc, matches)?;
     let overlays = overlays_of(alloc, matches)?;
     let locale = text_of(alloc, matches, "locale")?;
     let inquiry = inquiry_of(alloc, matches)?;
@@ -57,6 +61,14 @@ fn request_of(alloc: Global, matches: &ArgMatches<'_>) -> Result<WhyRequest, Wor
         json: flag_of(matches, "json"),
         inquiry,
     })
+}
+
+// Returns the definition file, or `None` for the built-in definitions.
+fn file_of(alloc: Global, matches: &ArgMatches<'_>) -> Result<Option<Text>, WordsFault> {
+    match text_of(alloc, matches, "file")? {
+        Some(_) if flag_of(matches, "built-in") => Err(WordsFault::Usage),
+        file => Ok(file),
+    }
 }
 
 // Returns the overlays in their order.

@@ -52,6 +52,7 @@ mod unit_notes;
 mod unmet;
 mod unused_definitions;
 mod values;
+mod version;
 mod why;
 mod writer;
 

@@ -1,7 +1,7 @@
 //! The run of the program.
 
 ghost use Rattle.std.specs.Prelude.{IfOk};
-ghost use Rattle.command_line.specs.WhyDigits.{HasWhyDigits};
+ghost use Rattle.command_line.specs.WhyDigits.{HasWhyDigits, HasWhyLineDigits};
 ghost use Rattle.reply.specs.Options.{AreReplyOptionsPrintable};
 
 use crate::definitions::{Definitions, load};
@@ -11,9 +11,12 @@ use crate::overlaid_files::OverlaidFiles;
 use crate::ports::Ports;
 use crate::status::Status;
 use crate::stop::Stop;
+use crate::version::why_version_text;
 use crate::why::{Question, explain};
 use crate::writer::Writer;
-use command_line::{Inquiry, WhyRequest, WordsFault, read_why_words, why_usage_text};
+use command_line::{
+    Inquiry, WhyCommandLine, WhyRequest, WordsFault, read_why_words, why_usage_text,
+};
 use deck::Deck;
 use reply::Options;
 use std::alloc::Global;
@@ -30,27 +33,37 @@ pub(crate) fn run<O: Sink, E: Sink, F: Files, L: Ledger>(
     ports: &mut Ports<O, E, F>,
     steps: Steps<L>,
 ) -> Status {
-    match read_request(alloc, words, &mut ports.files) {
-        Ok(request) => run_request(alloc, &request, vars, ports, steps),
-        Err(WordsFault::Usage) => match ports.err.put(alloc, why_usage_text()) {
-            Ok(()) => Status::Usage,
-            Err(fault) => fault.status(),
-        },
+    match read_line(alloc, words, &mut ports.files) {
+        Ok(WhyCommandLine::Version) => {
+            put_text(alloc, &mut ports.out, why_version_text(), Status::Done)
+        }
+        Ok(WhyCommandLine::Request(request)) => run_request(alloc, &request, vars, ports, steps),
+        Err(WordsFault::Usage) => put_text(alloc, &mut ports.err, why_usage_text(), Status::Usage),
         Err(WordsFault::OutOfMemory) => Status::NoMemory,
     }
 }
 
-// Reads the request in the words, and puts its overlays over the files.
-fn read_request<F: Files>(
+// Reads the command line in the words, and puts the overlays of its request over the files.
+fn read_line<F: Files>(
     alloc: Global,
     words: &[Text],
     files: &mut OverlaidFiles<F>,
-) -> Result<WhyRequest, WordsFault>
-    ensures { IfOk result HasWhyDigits }
+) -> Result<WhyCommandLine, WordsFault>
+    ensures { IfOk result HasWhyLineDigits }
 {
-    let request = read_why_words(alloc, words)?;
-    files.put_overlays(alloc, request.overlays.as_slice())?;
-    Ok(request)
+    let line = read_why_words(alloc, words)?;
+    if let WhyCommandLine::Request(request) = &line {
+        files.put_overlays(alloc, request.overlays.as_slice())?;
+    }
+    Ok(line)
+}
+
+// Writes a text. Returns `status` if it is written.
+fn put_text<S: Sink>(alloc: Global, output: &mut Output<S>, text: &[u8], status: Status) -> Status {
+    match output.put(alloc, text) {
+        Ok(()) => status,
+        Err(fault) => fault.status(),
+    }
 }
 
 fn run_request<O: Sink, E: Sink, F: Files, L: Ledger>(
