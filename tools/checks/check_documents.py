@@ -29,7 +29,7 @@ LIMITS = {
     "CONTRIBUTING.md": 6 * 1024,
     "docs/ARCHITECTURE.md": 9 * 1024,
     "docs/DECISIONS.md": 13 * 1024,
-    "docs/PROVED.md": 9 * 1024,
+    "docs/PROVED.md": 10 * 1024,
     "docs/STYLE.md": 5 * 1024,
     "docs/TOUR.md": 6 * 1024,
     "docs/WHY.md": 6 * 1024,

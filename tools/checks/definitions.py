@@ -8,8 +8,8 @@
 docs/DEFINITIONS.md introduces the definitions that a reader of the headline meets. A row names definitions in its
 first column and their files, as `crate/File File..`, in its third. docs/definition_marks.txt marks the other files that the
 headline reaches: `library FILE` for general vocabulary, `engine FILE REASON` for computations whose result a law
-describes. The headline is the set of definitions that the contract of `units_main` cites. The last line is
-`N passed, M failed`.
+describes. The headline is the set of definitions that the contract of `units_main` cites. In a crate, each name has one
+definition: a reader who meets it finds the right one by searching the crate. The last line is `N passed, M failed`.
 """
 
 from __future__ import annotations
@@ -38,6 +38,8 @@ HEADLINE = [
     Name("stream_run", "StreamRuns", "IsProcessRun"),
     Name("stream_run", "StreamRuns", "PrintsRun"),
 ]
+# Names with two definitions that wait until their crate is changed for another reason: a new name changes proofs.
+TWICE = {"def_entry/heading_of", "value_sources/unknown_mention"}
 QUOTED = re.compile(r"`([^`]+)`")
 MOST_BYTES = 10 * 1024
 INTRODUCTION = """# Index of definitions
@@ -122,6 +124,15 @@ def check_marks(rows: list[Row]) -> list[str]:
             faults.append(f"definition_marks.txt: {file} has no reason: name the law that describes its result")
     return faults
 
+def names_defined_twice() -> list[str]:
+    """The names that two files of a crate define, but for TWICE, and the names of TWICE that have one definition."""
+    files: dict[str, list[str]] = {}
+    for name in all_definitions():
+        files.setdefault(f"{name.crate}/{name.word}", []).append(name.subject)
+    twice = {name: subjects for name, subjects in files.items() if len(set(subjects)) > 1}
+    faults = [f"{name} is defined in {' and '.join(twice[name])}" for name in sorted(twice.keys() - TWICE)]
+    return faults + [f"{name} has one definition: remove it from TWICE" for name in sorted(TWICE - twice.keys())]
+
 
 def index(rows: list[Row]) -> str:
     """The text of the index: a table for each crate."""
@@ -153,7 +164,7 @@ def main() -> int:
         return 2
     stale = [] if INDEX.exists() and INDEX.read_text() == index(rows) else ["INDEX.md is stale: tools/checks/definitions.py --write"]
     open_files = [f"no page or mark covers {line}" for line in files_without_mark(rows)]
-    results = [check_page(rows), check_marks(rows), open_files, stale]
+    results = [check_page(rows), check_marks(rows), open_files, stale, names_defined_twice()]
     for fault in (fault for faults in results for fault in faults):
         print(f"definitions: {fault}")
     failed = sum(1 for faults in results if faults)

@@ -105,6 +105,31 @@ pub record AcceptedCommandLineExamples : Type 0 where
   pub column_most : AreWordsOfCommandLine (codes "m" ∷ codes "--column=65535" ∷ codes "ft # x" ∷ [])
       (record empty_command_line { column = Some 65535; from = Some (codes "m"); to = Some (codes "ft # x") })
 
+-- each letter of a flag alone, and each name of an option alone: no letter or name sets another field
+pub record SingleOptionExamples : Type 0 where
+  pub one_line_by_letter : AreWordsOfCommandLine (codes "-1" ∷ []) (record empty_command_line { one_line = true })
+  pub terse_by_letter : AreWordsOfCommandLine (codes "-t" ∷ []) (record empty_command_line { terse = true })
+  pub quiet_by_letter : AreWordsOfCommandLine (codes "-q" ∷ []) (record empty_command_line { quiet = true })
+  pub strict_by_letter : AreWordsOfCommandLine (codes "-s" ∷ []) (record empty_command_line { strict = true })
+  pub round_by_letter : AreWordsOfCommandLine (codes "-r" ∷ []) (record empty_command_line { round = true })
+  pub verbose_by_letter : AreWordsOfCommandLine (codes "-v" ∷ []) (record empty_command_line { verbose = true })
+  pub check_by_letter : AreWordsOfCommandLine (codes "-c" ∷ []) (record empty_command_line { check = true })
+  pub exact_by_name : AreWordsOfCommandLine (codes "--exact" ∷ []) (record empty_command_line { exact = true })
+  pub one_line_by_name : AreWordsOfCommandLine (codes "--one-line" ∷ []) (record empty_command_line { one_line = true })
+  pub compact_by_name : AreWordsOfCommandLine (codes "--compact" ∷ []) (record empty_command_line { compact = true })
+  pub terse_by_name : AreWordsOfCommandLine (codes "--terse" ∷ []) (record empty_command_line { terse = true })
+  pub quiet_by_name : AreWordsOfCommandLine (codes "--quiet" ∷ []) (record empty_command_line { quiet = true })
+  pub strict_by_name : AreWordsOfCommandLine (codes "--strict" ∷ []) (record empty_command_line { strict = true })
+  pub round_by_name : AreWordsOfCommandLine (codes "--round" ∷ []) (record empty_command_line { round = true })
+  pub verbose_by_name : AreWordsOfCommandLine (codes "--verbose" ∷ []) (record empty_command_line { verbose = true })
+  pub check_by_name : AreWordsOfCommandLine (codes "--check" ∷ []) (record empty_command_line { check = true })
+  pub locale_by_letter : AreWordsOfCommandLine (codes "-l" ∷ codes "en_GB" ∷ [])
+      (record empty_command_line { locale = Some (codes "en_GB") })
+  pub file_by_letter : AreWordsOfCommandLine (codes "-f" ∷ codes "a" ∷ [])
+      (record empty_command_line { file = Some (codes "a") })
+  pub file_by_name : AreWordsOfCommandLine (codes "--file" ∷ codes "a" ∷ [])
+      (record empty_command_line { file = Some (codes "a") })
+
 -- words that do not form a command line
 pub record RefusedCommandLineExamples : Type 0 where
   pub digits_zero : are_command_words_accepted (codes "-d" ∷ codes "0" ∷ codes "m" ∷ codes "ft" ∷ []) ≡ false

@@ -12,7 +12,7 @@ mod why_request;
 mod why_request_reader;
 mod word_reader;
 
-pub use examples::{refused_examples, taken_examples};
+pub use examples::{refused_examples, single_option_examples, taken_examples};
 pub use fault::WordsFault;
 pub use fields::CommandLine;
 pub use usage::usage_text;

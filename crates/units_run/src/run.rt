@@ -25,11 +25,17 @@ use std::mem;
 use std::sync::ledger::Ledger;
 use units_io::{Files, Sink, Source, Steps, Text, Vars};
 
-/// Runs the whole program. For every command line, set of files and session input, it writes exactly the specified
-/// replies, each as after a fresh load of the definitions then in force. A conversion is granted exactly if full
-/// expansion is defined, conformable and within 127 bits, and its value is that exact fraction. Every other ending is a
-/// counted fault, a stated limit, or running out of memory. `words` are the words after the program's name. The
-/// definitions of a run are never freed: the system reclaims their memory when the process ends.
+/// Runs the whole program. For every command line, set of variables, files and session input, it writes exactly the
+/// specified replies. Each is the reply of a new run over the definitions then in force, whatever was edited or asked
+/// before; only `:stats`, trials, undo, redo, saves and watches depend on the history, as they are defined to. A
+/// conversion is granted if and only if the full expansion of both sides is defined, both conform, and each step fits
+/// into 127 bits and a sign, the 128 bits of the specification; its number is then that exact fraction. Reciprocal,
+/// function and list conversions, and a target of 0, have their own rules. Any other ending is a counted I/O error, a
+/// documented limit, or out of memory, after a prefix of the replies. The premise is that the bytes of input, output
+/// and files are known.
+///
+/// `words` are the words after the program's name. The definitions of a run are never freed: the system reclaims their
+/// memory when the process ends.
 ///
 /// `run`: with a stated status (0 to 3) both sinks have all bytes of the run, its files and its count of steps are
 /// those of the run, and so is the status. With any other status each sink has a front of the bytes. If the input was
