@@ -3,7 +3,7 @@
 # it is below the bound that docs/DECISIONS.md states: 16 functions that call one another, each with an expression of 63
 # levels, in a query of 63 levels. A case is a kind of level in a program; the last line is `N passed, M failed`.
 set -u
-bound=1280 # KiB
+bound=1024 # KiB
 script=$(readlink -f "${BASH_SOURCE[0]}") || exit
 root=${script%/*/*/*}
 programs=()

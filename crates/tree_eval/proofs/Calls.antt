@@ -1,12 +1,11 @@
 -- Calls of functions.
 use Rattle.std.proofs.Common.{◌≡◌, ◌≢◌, ℕ, Bool, None, Option, Ok, Err, refl, sym, ◌∙◌, ap}
 use Rattle.quantity.specs.Amount.{Amount}
-use Rattle.tree_eval.specs.declared.fault.ValueFault.TheVariants as fault
 use Rattle.tree_eval.specs.declared.meaning.Meaning.{Meaning as ReportedMeaning}
 use Rattle.tree_eval.specs.declared.meaning.Meaning.TheVariants as reports
 use Rattle.tree_eval.specs.declared.outcome.Outcome.TheVariants as outcome
 use Rattle.tree_eval.specs.Environment.{IsReportedEvalMeaning}
-use Rattle.tree_eval.specs.Expansions.{Callable, EvalMeaning, Function}
+use Rattle.tree_eval.specs.Expansions.{Callable, EvalMeaning}
 use Rattle.tree_eval.specs.Expansion.{eval_meaning_expansion}
 use Rattle.tree_eval.specs.Outcomes.{outcome_of_value, value_in_outcome}
 use Rattle.tree_eval.specs.Steps.{ValueOrFault}

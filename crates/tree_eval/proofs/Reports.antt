@@ -1,6 +1,6 @@
 -- Reports of an environment, and the meanings that they tell.
-use Rattle.std.proofs.Common.{◌≡◌, ℕ, Bool, true, false, Option, Some, None, refl, sym, ◌∙◌, ap, subst}
-use Rattle.std.specs.Prelude.{IsTrue, if◌then◌else◌}
+use Rattle.std.proofs.Common.{◌≡◌, ℕ, Bool, true, false, Some, None, refl, ap}
+use Rattle.std.specs.Prelude.{if◌then◌else◌}
 use Rattle.tree_eval.specs.declared.meaning.Meaning.{Meaning as ReportedMeaning}
 use Rattle.tree_eval.specs.declared.meaning.Meaning.TheVariants as reports
 use Rattle.tree_eval.specs.Environment.{EvalReport, IsReportedEvalMeaning, OfFunction, OfName, OfPrefixed}

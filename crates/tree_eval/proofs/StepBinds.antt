@@ -7,6 +7,21 @@ use Rattle.tree_eval.specs.declared.fault.ValueFault.{ValueFault}
 use Rattle.tree_eval.specs.Answers.{GivesValueOrFault}
 use Rattle.units_io.specs.Outcomes.{◌>>=◌}
 
+-- the two kinds of results of an evaluation
+module _ {A B : Type 0} (view : A → B) {r : Result A EvalFault} (expected : Result B ValueFault)
+    (h : GivesValueOrFault view r expected) where
+  -- the value of a success is the expected one
+  pub success_value : {x : A} → r ≡ Ok x → expected ≡ Ok (view x)
+  success_value is = subst (λ z. GivesValueOrFault view z expected) is h
+
+  -- the fault of a failure is the expected one
+  pub failure_fault : {e : EvalFault} → r ≡ Err e → GivesValueOrFault view (Err e) expected
+  failure_fault is = subst (λ z. GivesValueOrFault view z expected) is h
+
+-- what holds after a success
+pub after_success : {A E : Type 0} {r : Result A E} (P : Type 0) → OnOk r P → {x : A} → r ≡ Ok x → P
+after_success P h is = subst (λ z. OnOk z P) is h
+
 -- the fault of the first step is that of the whole
 pub first_eval_step_fault : {A B C D : Type 0} (view : A → B) (seen : D → C) (e : EvalFault) (r : Result B ValueFault)
     (k : B → Result C ValueFault) (w : Result C ValueFault)
@@ -20,11 +35,10 @@ pub evaluated_value : {A B C : Type 0} (view : A → B) (r : Result A EvalFault)
     → {D : Type 0} (seen : D → C) (y : Result D EvalFault)
     → GivesValueOrFault seen y (k (view x)) → GivesValueOrFault seen y (expected >>= k)
 evaluated_value view r expected k h {x} is seen y =
-    let w : expected ≡ Ok (view x) = subst (λ z. GivesValueOrFault view z expected) is h in
-    subst (λ z. GivesValueOrFault seen y (z >>= k)) (sym w)
+    subst (λ z. GivesValueOrFault seen y (z >>= k)) (sym (success_value view expected h is))
 
 -- what holds after an evaluation with a value holds after the step that follows it
 pub after_evaluated : {A B E F : Type 0} (y : Result A E) (r : Result B F) (P : Type 0) {x : B} → r ≡ Ok x → OnOk r P
     → OnOk y P
-after_evaluated (Ok y) r P is h = subst (λ z. OnOk z P) is h
+after_evaluated (Ok y) r P is h = after_success P h is
 after_evaluated (Err f) r P is h = tt

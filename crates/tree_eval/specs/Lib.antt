@@ -12,6 +12,7 @@ pub mod Multiples
 pub mod Operands
 pub mod Outcomes
 pub mod Refusals
+pub mod Statuses
 pub mod Steps
 pub mod Tests
 pub mod WordValues

@@ -5,7 +5,6 @@ use Rattle.frac128.specs.Fraction.{Fraction, whole_fraction}
 use Rattle.frac128.specs.declared.fault.FracFault.TheVariants.{DivisionByZero, NoExactRoot}
 use Rattle.def_entry.specs.declared.entry.Span.{Span}
 use Rattle.expr_tree.specs.declared.operator.RootKind.TheVariants.{Square}
-use Rattle.piecewise.specs.Lines.{Point}
 use Rattle.quantity.specs.Amount.{Amount}
 use Rattle.tree_eval.specs.declared.fault.ValueFault.TheVariants as fault
 use Rattle.tree_eval.specs.declared.step.Step.{Step}

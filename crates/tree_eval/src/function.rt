@@ -16,6 +16,7 @@ ghost use Rattle.tree_eval.specs.Value as spec;
 use crate::direction::Direction;
 use crate::end::End;
 use crate::env::Env;
+use crate::eval_status::EvalStatus;
 use crate::fault::EvalFault;
 use crate::held_quantity::{Held, lend_quantity};
 use crate::holder::{Holder, Part};
@@ -78,7 +79,7 @@ pub(crate) fn put_taken<E: Env>(
     direction: Direction,
     id: usize,
     held: &mut Held<'_>,
-) -> Result<(), EvalFault>
+) -> EvalStatus
     requires { IsTrue (E.has env.now id) }
     ensures { GivesValueOrFault (λ _. amount_of_held_value held.new) result
         (direction_value direction (E.callee env.now id) (amount_of_held_value held.old)) }

@@ -1,6 +1,6 @@
 //! Quantities that are borrowed or owned.
 
-ghost use Rattle.std.specs.Prelude.{◌≡◌, IfOk, Ok, option_map};
+ghost use Rattle.std.specs.Prelude.{◌≡◌, IfOk, Err, Ok, option_map};
 ghost use Rattle.std.specs.Option.{option_copied};
 ghost use Rattle.quantity.specs.Answers.{IsQuantityAnswer};
 ghost use Rattle.quantity.specs.Products.{quantity_product};
@@ -8,6 +8,7 @@ ghost use Rattle.tree_eval.specs.Answers.{GivesValueOrFault, IsEvalResult, amoun
 ghost use Rattle.tree_eval.specs.Steps.{ValueOrFault, negative_value, value_one};
 ghost use Rattle.tree_eval.specs.Value.{argument_or_one};
 
+use crate::eval_status::EvalStatus;
 use crate::fault::EvalFault;
 use quantity::{Quantity, QuantityFault};
 use std::alloc::{AllocError, Global};
@@ -51,26 +52,23 @@ impl<'a> Held<'a> {
     }
 
     // Stores the quantity of a result in place of this one.
-    pub(crate) fn store_value(
-        &mut self,
-        value: Result<Quantity, EvalFault>,
-    ) -> Result<(), EvalFault>
+    pub(crate) fn store_value(&mut self, value: Result<Quantity, EvalFault>) -> EvalStatus
         ensures { (expected : ValueOrFault) → IsEvalResult value expected
             → GivesValueOrFault (λ _. amount_of_held_value self.new) result expected }
     {
         *self = Held::Own(value?);
-        Ok(())
+        EvalStatus::success()
     }
 
     // Negates the quantity in place.
     #[inline(never)]
-    pub(crate) fn negate(&mut self, alloc: Global) -> Result<(), EvalFault>
+    pub(crate) fn negate(&mut self, alloc: Global) -> EvalStatus
         ensures { GivesValueOrFault (λ _. amount_of_held_value self.new) result
             (Ok (negative_value (amount_of_held_value self.old))) }
     {
         let q = self.take(alloc).own(alloc)?;
         *self = Held::Own(q.into_negative());
-        Ok(())
+        EvalStatus::success()
     }
 
     // Borrows the quantity.
@@ -116,10 +114,10 @@ pub(crate) fn lend_quantity<'b>(held: &'b Option<Held<'_>>) -> Option<&'b Quanti
 
 // Drops a place, and returns the fault of the evaluation that should have filled it.
 #[inline(never)]
-pub(crate) fn drop_place(_place: Box<Held<'_>>, fault: EvalFault) -> EvalFault
-    ensures { result ≡ fault }
+pub(crate) fn drop_place(_place: Box<Held<'_>>, fault: EvalFault) -> EvalStatus
+    ensures { result ≡ Err fault }
 {
-    fault
+    EvalStatus::of_result(Err(fault))
 }
 
 // Stores the argument, or 1 if none is given.

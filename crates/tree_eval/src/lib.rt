@@ -5,6 +5,7 @@ mod answer;
 mod direction;
 mod end;
 mod env;
+mod eval_status;
 mod fault;
 mod function;
 mod held_quantity;

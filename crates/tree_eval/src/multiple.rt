@@ -11,6 +11,7 @@ ghost use Rattle.tree_eval.specs.WordValues.{IsUsableEvalMeaning, reported_word_
 
 use crate::answer::{amount_answer, number_answer};
 use crate::env::Env;
+use crate::eval_status::EvalStatus;
 use crate::fault::EvalFault;
 use crate::held_quantity::Held;
 use crate::meaning::Meaning;
@@ -87,7 +88,7 @@ pub(crate) fn put_multiple<'a, E: Env>(
     factor: Factor<'_>,
     meaning: Meaning<'a>,
     held: &mut Held<'a>,
-) -> Result<(), EvalFault>
+) -> EvalStatus
     requires { IsUsableEvalMeaning (E.has env.now) meaning }
     ensures { GivesValueOrFault (λ _. amount_of_held_value held.new) result
         (spec.word_multiple_value (spec.factor_number_value factor.entry)

@@ -6,14 +6,14 @@ ghost use Rattle.tree_eval.specs.Answers.{GivesValueOrFault, amount_of_held_valu
 ghost use Rattle.tree_eval.specs.Steps as spec;
 
 use crate::answer::number_answer;
-use crate::fault::EvalFault;
+use crate::eval_status::EvalStatus;
 use crate::held_quantity::Held;
 use frac128::{Frac, FracFault, Numeral};
 use std::alloc::Global;
 
 // Stores the value of a numeral.
 #[inline(never)]
-pub(crate) fn put_numeral(alloc: Global, x: &Numeral, held: &mut Held<'_>) -> Result<(), EvalFault>
+pub(crate) fn put_numeral(alloc: Global, x: &Numeral, held: &mut Held<'_>) -> EvalStatus
     ensures { GivesValueOrFault (λ _. amount_of_held_value held.new) result
         (spec.value_of_number (fraction_of_decimal x.now)) }
 {
@@ -22,12 +22,7 @@ pub(crate) fn put_numeral(alloc: Global, x: &Numeral, held: &mut Held<'_>) -> Re
 
 // Stores the quotient of two numerals.
 #[inline(never)]
-pub(crate) fn put_bar(
-    alloc: Global,
-    x: &Numeral,
-    y: &Numeral,
-    held: &mut Held<'_>,
-) -> Result<(), EvalFault>
+pub(crate) fn put_bar(alloc: Global, x: &Numeral, y: &Numeral, held: &mut Held<'_>) -> EvalStatus
     ensures { GivesValueOrFault (λ _. amount_of_held_value held.new) result
         (spec.value_of_number (spec.numeral_quotient_value x.now y.now)) }
 {

@@ -5,6 +5,7 @@ ghost use Rattle.tree_eval.specs.Answers.{GivesValueOrFault, IsEvalResult, amoun
 ghost use Rattle.tree_eval.specs.Steps as spec;
 
 use crate::answer::{amount_answer, number_answer};
+use crate::eval_status::EvalStatus;
 use crate::fault::EvalFault;
 use crate::held_quantity::Held;
 use expr_tree::RootKind;
@@ -14,11 +15,7 @@ use std::alloc::Global;
 
 // Replaces the held quantity by its power.
 #[inline(never)]
-pub(crate) fn take_power(
-    alloc: Global,
-    held: &mut Held<'_>,
-    exponent: Box<Held<'_>>,
-) -> Result<(), EvalFault>
+pub(crate) fn take_power(alloc: Global, held: &mut Held<'_>, exponent: Box<Held<'_>>) -> EvalStatus
     ensures { GivesValueOrFault (λ _. amount_of_held_value held.new) result (spec.value_of_quantity_step
         (quantity_power (amount_of_held_value held.old) (amount_of_held_value exponent.entry.value))) }
 {
@@ -28,7 +25,7 @@ pub(crate) fn take_power(
 
 // Replaces the held quantity by its root of the given kind.
 #[inline(never)]
-pub(crate) fn take_root(alloc: Global, kind: RootKind, held: &mut Held<'_>) -> Result<(), EvalFault>
+pub(crate) fn take_root(alloc: Global, kind: RootKind, held: &mut Held<'_>) -> EvalStatus
     ensures { GivesValueOrFault (λ _. amount_of_held_value held.new) result
         (spec.root_value kind (amount_of_held_value held.old)) }
 {

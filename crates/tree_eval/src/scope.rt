@@ -1,7 +1,7 @@
 //! Evaluation of expressions. Calls nest as deep as an expression and the functions that it calls, up to some thousand
-//! parentheses, and so does the stack. So each call stores its value in a place of its caller, which is on the heap; code
-//! that needs much stack is in separate functions, which return before further calls nest; and the functions that only
-//! choose what to call are inlined.
+//! parentheses, and so does the stack. So each call stores its value in a place of its caller, which is on the heap, and
+//! returns a status that fits in two registers; code that needs much stack is in separate functions, which return before
+//! further calls nest; and the functions that only choose what to call are inlined.
 
 ghost use Rattle.std.specs.Prelude.{◌≡◌, ◌+◌, ◌++◌, ◌<◌, IfOk, OnOk, Some, length, map, slice_get};
 ghost use Rattle.std.specs.Option.{option_copied};
@@ -19,6 +19,7 @@ ghost use Rattle.tree_eval.specs.Value as spec;
 
 use crate::direction::Direction;
 use crate::env::Env;
+use crate::eval_status::EvalStatus;
 use crate::fault::EvalFault;
 use crate::function::put_taken;
 use crate::held_quantity::{Held, drop_place, put_argument};
@@ -92,7 +93,7 @@ impl<'a, E: Env> Scope<'a, E> {
     // Stores the value of a tree whose first word is at `place`, and moves `place` past its last word.
     #[cycle(eval)]
     #[inline(always)]
-    fn evaluate(&self, tree: &Tree, place: &mut usize, held: &mut Held<'a>) -> Result<(), EvalFault>
+    fn evaluate(&self, tree: &Tree, place: &mut usize, held: &mut Held<'a>) -> EvalStatus
         requires { IsEvalWordRun (E.words self.now.env.now self.now.holder) place.old (words_in (syntax tree.now)) }
         ensures value_or_fault { GivesValueOrFault (λ _. amount_of_held_value held.new) result (spec.value
             (expand (E.means self.now.env.now) (syntax tree.now)) (option_copied self.now.arg)) }
@@ -104,7 +105,7 @@ impl<'a, E: Env> Scope<'a, E> {
             Tree::Bar(quotient) => put_bar(self.alloc, &quotient.top, &quotient.bottom, held),
             Tree::Argument => {
                 put_argument(self.alloc, self.arg, held);
-                Ok(())
+                EvalStatus::success()
             }
             Tree::Word(_) => self.word(place, held),
             Tree::Call(_, operand) => self.evaluate_use(Direction::Forward, operand, place, held),
@@ -130,7 +131,7 @@ impl<'a, E: Env> Scope<'a, E> {
     // Stores the value of a tree in parentheses.
     #[cycle(eval)]
     #[inline(never)]
-    fn group(&self, operand: &Tree, place: &mut usize, held: &mut Held<'a>) -> Result<(), EvalFault>
+    fn group(&self, operand: &Tree, place: &mut usize, held: &mut Held<'a>) -> EvalStatus
         requires { IsEvalWordRun (E.words self.now.env.now self.now.holder) place.old (words_in (syntax operand.now)) }
         ensures value_or_fault { GivesValueOrFault (λ _. amount_of_held_value held.new) result (spec.value
             (expand (E.means self.now.env.now) (syntax operand.now)) (option_copied self.now.arg)) }
@@ -148,7 +149,7 @@ impl<'a, E: Env> Scope<'a, E> {
         operand: &Tree,
         place: &mut usize,
         held: &mut Held<'a>,
-    ) -> Result<(), EvalFault>
+    ) -> EvalStatus
         requires { IsEvalWordRun (E.words self.now.env.now self.now.holder) place.old (words_in (syntax operand.now)) }
         ensures value_or_fault { GivesValueOrFault (λ _. amount_of_held_value held.new) result (spec.value
             (expanded.Root kind (expand (E.means self.now.env.now) (syntax operand.now)))
@@ -167,7 +168,7 @@ impl<'a, E: Env> Scope<'a, E> {
         operand: &Tree,
         place: &mut usize,
         held: &mut Held<'a>,
-    ) -> Result<(), EvalFault>
+    ) -> EvalStatus
         requires { IsEvalWordRun (E.words self.now.env.now self.now.holder) place.old (words_in (syntax operand.now)) }
         ensures value_or_fault { GivesValueOrFault (λ _. amount_of_held_value held.new) result (spec.value
             (expanded.Negated (expand (E.means self.now.env.now) (syntax operand.now))) (option_copied self.now.arg)) }
@@ -186,7 +187,7 @@ impl<'a, E: Env> Scope<'a, E> {
         exponent: &Tree,
         place: &mut usize,
         held: &mut Held<'a>,
-    ) -> Result<(), EvalFault>
+    ) -> EvalStatus
         requires { IsEvalWordRun (E.words self.now.env.now self.now.holder) place.old
             (words_in (syntax base.now) ++ words_in (syntax exponent.now)) }
         ensures value_or_fault { GivesValueOrFault (λ _. amount_of_held_value held.new) result
@@ -198,15 +199,18 @@ impl<'a, E: Env> Scope<'a, E> {
     {
         self.evaluate(base, place, held)?;
         let mut exponent_held = Held::new_place(self.alloc)?;
-        match self.evaluate(exponent, place, &mut exponent_held) {
+        match self
+            .evaluate(exponent, place, &mut exponent_held)
+            .into_result()
+        {
             Ok(()) => take_power(self.alloc, held, exponent_held),
-            Err(fault) => Err(drop_place(exponent_held, fault)),
+            Err(fault) => drop_place(exponent_held, fault),
         }
     }
 
     // Stores the value of the single word at `place`.
     #[inline(never)]
-    fn word(&self, place: &mut usize, held: &mut Held<'a>) -> Result<(), EvalFault>
+    fn word(&self, place: &mut usize, held: &mut Held<'a>) -> EvalStatus
         requires { place.old < length (E.words self.now.env.now self.now.holder) }
         ensures value_or_fault { (u : WordUse) → slice_get (E.words self.now.env.now self.now.holder) place.old ≡ Some u
             → GivesValueOrFault (λ _. amount_of_held_value held.new) result
@@ -219,7 +223,7 @@ impl<'a, E: Env> Scope<'a, E> {
 
     // Combines the running value with the single word at `place`.
     #[inline(never)]
-    fn with_word(&self, step: Step, place: &mut usize, held: &mut Held<'a>) -> Result<(), EvalFault>
+    fn with_word(&self, step: Step, place: &mut usize, held: &mut Held<'a>) -> EvalStatus
         requires { place.old < length (E.words self.now.env.now self.now.holder) }
         ensures value_or_fault { (u : WordUse) → slice_get (E.words self.now.env.now self.now.holder) place.old ≡ Some u
             → GivesValueOrFault (λ _. amount_of_held_value held.new) result
@@ -257,7 +261,7 @@ impl<'a, E: Env> Scope<'a, E> {
         operand: &Tree,
         place: &mut usize,
         held: &mut Held<'a>,
-    ) -> Result<(), EvalFault>
+    ) -> EvalStatus
         requires within { place.old < length (E.words self.now.env.now self.now.holder) }
         requires stand { IsEvalWordRun (E.words self.now.env.now self.now.holder) (place.old + 1)
             (words_in (syntax operand.now)) }
@@ -288,7 +292,7 @@ impl<'a, E: Env> Scope<'a, E> {
         trees: &Trees,
         place: &mut usize,
         held: &mut Held<'a>,
-    ) -> Result<(), EvalFault>
+    ) -> EvalStatus
         requires { IsEvalWordRun (E.words self.now.env.now self.now.holder) place.old
             (words_of_operands (map operand_by_side (syntax_of_trees trees.now))) }
         ensures value_or_fault { GivesValueOrFault (λ _. amount_of_held_value held.new) result (spec.value
@@ -309,12 +313,7 @@ impl<'a, E: Env> Scope<'a, E> {
     // Evaluates the members of a chain.
     #[cycle(eval)]
     #[inline(never)]
-    fn chain(
-        &self,
-        operands: Operands<'_>,
-        place: &mut usize,
-        held: &mut Held<'a>,
-    ) -> Result<(), EvalFault>
+    fn chain(&self, operands: Operands<'_>, place: &mut usize, held: &mut Held<'a>) -> EvalStatus
         requires { IsEvalWordRun (E.words self.now.env.now self.now.holder) place.old
             (words_of_operands (operands_with_steps operands)) }
         ensures value_or_fault { GivesValueOrFault (λ _. amount_of_held_value held.new) result (spec.value
@@ -324,13 +323,13 @@ impl<'a, E: Env> Scope<'a, E> {
     {
         if operands.len() == 0 {
             put_argument(self.alloc, None, held);
-            return Ok(());
+            return EvalStatus::success();
         }
         self.evaluate(operands.get(0).tree, place, held)?;
         for i in 1..operands.len() {
             self.with_member(operands.get(i), place, held)?;
         }
-        Ok(())
+        EvalStatus::success()
     }
 
     // Combines the running value with one more member.
@@ -341,7 +340,7 @@ impl<'a, E: Env> Scope<'a, E> {
         operand: Operand<'_>,
         place: &mut usize,
         held: &mut Held<'a>,
-    ) -> Result<(), EvalFault>
+    ) -> EvalStatus
         requires { IsEvalWordRun (E.words self.now.env.now self.now.holder) place.old
             (words_in (syntax operand.tree.now)) }
         ensures value_or_fault { GivesValueOrFault (λ _. amount_of_held_value held.new) result
@@ -366,7 +365,7 @@ impl<'a, E: Env> Scope<'a, E> {
         operand: Operand<'_>,
         place: &mut usize,
         held: &mut Held<'a>,
-    ) -> Result<(), EvalFault>
+    ) -> EvalStatus
         requires { IsEvalWordRun (E.words self.now.env.now self.now.holder) place.old
             (words_in (syntax operand.tree.now)) }
         ensures value_or_fault { GivesValueOrFault (λ _. amount_of_held_value held.new) result
@@ -376,9 +375,12 @@ impl<'a, E: Env> Scope<'a, E> {
         ensures place { OnOk result (place.new ≡ place.old + length (words_in (syntax operand.entry.tree.now))) }
     {
         let mut member = Held::new_place(self.alloc)?;
-        match self.evaluate(operand.tree, place, &mut member) {
+        match self
+            .evaluate(operand.tree, place, &mut member)
+            .into_result()
+        {
             Ok(()) => operand.step.take_member(self.alloc, held, member),
-            Err(fault) => Err(drop_place(member, fault)),
+            Err(fault) => drop_place(member, fault),
         }
     }
 }

@@ -9,6 +9,7 @@ ghost use Rattle.tree_eval.specs.Operands.{value_with_operand};
 ghost use Rattle.tree_eval.specs.Steps as spec;
 
 use crate::answer::{amount_answer, fraction_answer, scaled_answer};
+use crate::eval_status::EvalStatus;
 use crate::fault::EvalFault;
 use crate::held_quantity::Held;
 use expr_tree::{Scale, Sign};
@@ -71,7 +72,7 @@ impl Step {
         alloc: Global,
         held: &mut Held<'_>,
         right: Box<Held<'_>>,
-    ) -> Result<(), EvalFault>
+    ) -> EvalStatus
         ensures { GivesValueOrFault (λ _. amount_of_held_value held.new) result
             (spec.operand_step_value self (amount_of_held_value held.old) (amount_of_held_value right.entry.value)) }
     {
@@ -86,7 +87,7 @@ impl Step {
         alloc: Global,
         held: &mut Held<'_>,
         right: &Numeral,
-    ) -> Result<(), EvalFault>
+    ) -> EvalStatus
         ensures { GivesValueOrFault (λ _. amount_of_held_value held.new) result
             (value_with_operand self (amount_of_held_value held.old)
             (spec.value_of_number (fraction_of_decimal right.now))) }

@@ -7,6 +7,7 @@ ghost use Rattle.tree_eval.specs.Outcomes.{value_in_outcome};
 ghost use Rattle.tree_eval.specs.WordValues as spec;
 
 use crate::env::Env;
+use crate::eval_status::EvalStatus;
 use crate::fault::EvalFault;
 use crate::held_quantity::Held;
 use crate::meaning::Meaning;
@@ -41,13 +42,13 @@ pub(crate) fn put_word<'a, E: Env>(
     env: &'a E,
     meaning: Meaning<'a>,
     held: &mut Held<'a>,
-) -> Result<(), EvalFault>
+) -> EvalStatus
     requires { spec.IsUsableEvalMeaning (E.has env.now) meaning }
     ensures { answer.GivesValueOrFault (λ _. answer.amount_of_held_value held.new) result
         (spec.reported_word_value (E.callee env.now) meaning.entry) }
 {
     *held = value_of_word(alloc, env, meaning)?;
-    Ok(())
+    EvalStatus::success()
 }
 
 // Combines the running value with a single word in place.
@@ -58,7 +59,7 @@ pub(crate) fn take_word<'a, E: Env>(
     held: &mut Held<'a>,
     step: Step,
     meaning: Meaning<'a>,
-) -> Result<(), EvalFault>
+) -> EvalStatus
     requires { spec.IsUsableEvalMeaning (E.has env.now) meaning }
     ensures { answer.GivesValueOrFault (λ _. answer.amount_of_held_value held.new) result
         (value_with_operand step (answer.amount_of_held_value held.old)

@@ -1,6 +1,5 @@
 use Rattle.std.proofs.Common.{arith, ap, sym, ◌∙◌}
 use Rattle.std.specs.Option.{option_copied}
-use Rattle.std.proofs.lemmas.Result.{err_from_is_err_and}
 use Rattle.def_entry.specs.Views.{entry_definition_view}
 use Rattle.expr_tree.specs.Syntax as tree
 use Rattle.expr_tree.specs.Trees.{syntax}
@@ -17,7 +16,7 @@ use Rattle.tree_eval.proofs.Chains.{run_goes_on}
 use Rattle.tree_eval.proofs.Chains.{member_fault, member_lighter, member_stand}
 use Rattle.tree_eval.proofs.MemberChains.{juxtaposed_is, product_is, sum_is}
 use Rattle.tree_eval.proofs.Multiples.{multiple_gives, multiple_place, multiple_usable, multiple_within}
-use Rattle.tree_eval.proofs.StepBinds.{after_evaluated, evaluated_value}
+use Rattle.tree_eval.proofs.StepBinds.{after_evaluated, after_success, evaluated_value, failure_fault, success_value}
 use Rattle.tree_eval.proofs.Targets.{alias_eval_word_is_callable}
 use Rattle.tree_eval.proofs.Uses.{function_lighter, operand_lighter, operand_stands, use_at_run, use_gives}
 use Rattle.tree_eval.proofs.Uses.{use_has_function}
@@ -117,7 +116,7 @@ scope::Scope::power-evaluate-requires-2 g t c κs within =
     let lighter = exponent_lighter (g.E.Env.means c.args.self.now.env.now) (syntax c.args.base.now)
     (syntax c.args.exponent.now) in
     let stand = exponent_stands _ _ (syntax c.args.base.now) (syntax c.args.exponent.now) c.requires
-    c.in_ok-evaluate.ensures.place in
+    (after_success _ c.evaluate.ensures.place c.in_ok-evaluate.ensures) in
     (omega (arith, lighter), (within, stand))
 
 pub scope::Scope::power-returns-in-Ok-clause-value_or_fault
@@ -125,14 +124,15 @@ pub scope::Scope::power-returns-in-Ok-clause-value_or_fault
 scope::Scope::power-returns-in-Ok-clause-value_or_fault g t c =
     power_gives (expand (g.E.Env.means c.args.self.now.env.now) (syntax c.args.base.now))
     (expand (g.E.Env.means c.args.self.now.env.now) (syntax c.args.exponent.now)) (option_copied c.args.self.now.arg)
-    c.in_ok-evaluate.ensures.value_or_fault _ _
-    (evaluated_value _ _ _ _ c.evaluate-2.ensures.value_or_fault c.in-Ok.is _ _ c.take_power.ensures)
+    (success_value _ _ c.evaluate.ensures.value_or_fault c.in_ok-evaluate.ensures) _ _
+    (evaluated_value _ _ _ _ c.evaluate-2.ensures.value_or_fault (sym c.into_result.ensures ∙ c.in-Ok.is) _ _
+    c.take_power.ensures)
 
 pub scope::Scope::power-returns-in-Ok-clause-place : goal.scope::Scope::power-returns-in-Ok-clause-place
 scope::Scope::power-returns-in-Ok-clause-place g t c =
-    after_evaluated _ _ _ c.in-Ok.is
-    (power_ends _ (syntax c.args.base.now) (syntax c.args.exponent.now) _ _ _ c.in_ok-evaluate.ensures.place
-    c.evaluate-2.ensures.place)
+    after_evaluated _ _ _ (sym c.into_result.ensures ∙ c.in-Ok.is)
+    (power_ends _ (syntax c.args.base.now) (syntax c.args.exponent.now) _ _ _
+    (after_success _ c.evaluate.ensures.place c.in_ok-evaluate.ensures) c.evaluate-2.ensures.place)
 
 pub scope::Scope::evaluate-evaluate_juxtaposition-requires : goal.scope::Scope::evaluate-evaluate_juxtaposition-requires
 scope::Scope::evaluate-evaluate_juxtaposition-requires g t c κs within =
@@ -238,29 +238,29 @@ scope::Scope::evaluate_use-put_taken-requires g t c κs within =
 pub scope::Scope::evaluate_use-returns-in_err-put_word-clause-value_or_fault
     : goal.scope::Scope::evaluate_use-returns-in_err-put_word-clause-value_or_fault
 scope::Scope::evaluate_use-returns-in_err-put_word-clause-value_or_fault g t c u at =
-    let p = err_from_is_err_and c.from_residual-in_err-put_word.result c.from_residual-in_err-put_word.ensures.1 in
-    rw (p.1, p.2) (word_fault _ _ _ _ _ _ (c.in_ok-meaning.ensures.reports u at) c.in_default.not-Function _
-    c.in_err-put_word.ensures)
+    rw c.from_residual-in_err-put_word.ensures
+    (word_fault _ _ _ _ _ _ (c.in_ok-meaning.ensures.reports u at) c.in_default.not-Function _
+    (failure_fault _ _ c.put_word.ensures c.in_err-put_word.ensures))
 
 pub scope::Scope::evaluate_use-returns-clause-value_or_fault
     : goal.scope::Scope::evaluate_use-returns-clause-value_or_fault
 scope::Scope::evaluate_use-returns-clause-value_or_fault g t c u at =
-    product_gives _ _ _ _ _ _ (c.in_ok-meaning.ensures.reports u at) c.in_default.not-Function c.in_ok-put_word.ensures
-    _ _
+    product_gives _ _ _ _ _ _ (c.in_ok-meaning.ensures.reports u at) c.in_default.not-Function
+    (success_value _ _ c.put_word.ensures c.in_ok-put_word.ensures) _ _
     c.join_member.ensures.value_or_fault
 
 pub scope::Scope::evaluate_use-returns-in_err-evaluate-clause-value_or_fault
     : goal.scope::Scope::evaluate_use-returns-in_err-evaluate-clause-value_or_fault
 scope::Scope::evaluate_use-returns-in_err-evaluate-clause-value_or_fault g t c u at =
-    let p = err_from_is_err_and c.from_residual-in_err-evaluate.result c.from_residual-in_err-evaluate.ensures.1 in
-    rw (p.1, p.2) (operand_fault _ _ _ _ _ _ (c.in_ok-meaning.ensures.reports u at) c.in-Function.is _
-    c.in_err-evaluate.ensures.value_or_fault)
+    rw c.from_residual-in_err-evaluate.ensures
+    (operand_fault _ _ _ _ _ _ (c.in_ok-meaning.ensures.reports u at) c.in-Function.is _
+    (failure_fault _ _ c.evaluate.ensures.value_or_fault c.in_err-evaluate.ensures))
 
 pub scope::Scope::evaluate_use-returns-in-Function-clause-value_or_fault
     : goal.scope::Scope::evaluate_use-returns-in-Function-clause-value_or_fault
 scope::Scope::evaluate_use-returns-in-Function-clause-value_or_fault g t c u at =
     taken_give _ _ _ _ _ _ (c.in_ok-meaning.ensures.reports u at) c.in-Function.is
-    c.in_ok-evaluate.ensures.value_or_fault _ _
+    (success_value _ _ c.evaluate.ensures.value_or_fault c.in_ok-evaluate.ensures) _ _
     c.put_taken.ensures
 
 pub scope::Scope::evaluate_juxtaposition-next_meaning-requires
@@ -294,13 +294,15 @@ scope::Scope::chain-evaluate-requires g t c κs within =
 pub scope::Scope::chain-returns-in_err-evaluate-clause-value_or_fault
     : goal.scope::Scope::chain-returns-in_err-evaluate-clause-value_or_fault
 scope::Scope::chain-returns-in_err-evaluate-clause-value_or_fault g t c =
-    let p = err_from_is_err_and c.from_residual.result c.from_residual.ensures.1 in
-    rw (p.1, p.2) (first_fault _ c.get.ensures (g.E.Env.means c.args.self.now.env.now)
-    (option_copied c.args.self.now.arg) _ c.in_err-evaluate.ensures.value_or_fault)
+    rw c.from_residual.ensures (first_fault _ c.get.ensures (g.E.Env.means c.args.self.now.env.now)
+    (option_copied c.args.self.now.arg) _
+    (failure_fault _ _ c.evaluate.ensures.value_or_fault c.in_err-evaluate.ensures))
 
 pub scope::Scope::chain-loop-i-init : goal.scope::Scope::chain-loop-i-init
 scope::Scope::chain-loop-i-init g t c =
-    begins _ c.get.ensures _ _ c.requires c.in_ok-evaluate.ensures.value_or_fault c.in_ok-evaluate.ensures.place
+    begins _ c.get.ensures _ _ c.requires
+    (success_value _ _ c.evaluate.ensures.value_or_fault c.in_ok-evaluate.ensures)
+    (after_success _ c.evaluate.ensures.place c.in_ok-evaluate.ensures)
 
 pub scope::Scope::chain-with_member-requires : goal.scope::Scope::chain-with_member-requires
 scope::Scope::chain-with_member-requires g t c κs within =
@@ -310,23 +312,22 @@ scope::Scope::chain-with_member-requires g t c κs within =
 pub scope::Scope::chain-returns-in_err-with_member-clause-value_or_fault
     : goal.scope::Scope::chain-returns-in_err-with_member-clause-value_or_fault
 scope::Scope::chain-returns-in_err-with_member-clause-value_or_fault g t c =
-    let p = err_from_is_err_and c.from_residual-in_err-with_member.result c.from_residual-in_err-with_member.ensures.1
-    in
-    rw (p.1, p.2) (member_fault c.loop-i.invariant c.get-in-loop-i.ensures _
-    c.in_err-with_member.ensures.value_or_fault)
+    rw c.from_residual-in_err-with_member.ensures (member_fault c.loop-i.invariant c.get-in-loop-i.ensures _
+    (failure_fault _ _ c.with_member.ensures.value_or_fault c.in_err-with_member.ensures))
 
 pub scope::Scope::chain-loop-i-preserved : goal.scope::Scope::chain-loop-i-preserved
 scope::Scope::chain-loop-i-preserved g t c =
-    run_goes_on c.loop-i.invariant c.get-in-loop-i.ensures c.in_ok-with_member.ensures.value_or_fault
-    c.in_ok-with_member.ensures.place
+    run_goes_on c.loop-i.invariant c.get-in-loop-i.ensures
+    (success_value _ _ c.with_member.ensures.value_or_fault c.in_ok-with_member.ensures)
+    (after_success _ c.with_member.ensures.place c.in_ok-with_member.ensures)
 
 pub scope::Scope::chain-returns-clause-value_or_fault : goal.scope::Scope::chain-returns-clause-value_or_fault
 scope::Scope::chain-returns-clause-value_or_fault g t c =
-    value_at_end c.loop-i.invariant (omega (arith, c.len-i-end.ensures))
+    rw c.success-2.ensures (value_at_end c.loop-i.invariant (omega (arith, c.len-i-end.ensures)))
 
 pub scope::Scope::chain-returns-clause-place : goal.scope::Scope::chain-returns-clause-place
 scope::Scope::chain-returns-clause-place g t c =
-    end_place c.loop-i.invariant (omega (arith, c.len-i-end.ensures))
+    rw c.success-2.ensures (end_place c.loop-i.invariant (omega (arith, c.len-i-end.ensures)))
 
 pub scope::Scope::with_member-with_word-requires : goal.scope::Scope::with_member-with_word-requires
 scope::Scope::with_member-with_word-requires g t c =
@@ -343,12 +344,12 @@ pub scope::Scope::join_member-returns-in-Ok-clause-value_or_fault
 scope::Scope::join_member-returns-in-Ok-clause-value_or_fault g t c =
     evaluated_value _ _ _
     (operand_step_value c.args.operand.step (amount_of_held_value c.args.held.now))
-    c.evaluate.ensures.value_or_fault c.in-Ok.is _ _ c.take_member.ensures
+    c.evaluate.ensures.value_or_fault (sym c.into_result.ensures ∙ c.in-Ok.is) _ _ c.take_member.ensures
 
 pub scope::Scope::join_member-returns-in-Ok-clause-place
     : goal.scope::Scope::join_member-returns-in-Ok-clause-place
 scope::Scope::join_member-returns-in-Ok-clause-place g t c =
-    after_evaluated _ _ _ c.in-Ok.is c.evaluate.ensures.place
+    after_evaluated _ _ _ (sym c.into_result.ensures ∙ c.in-Ok.is) c.evaluate.ensures.place
 
 pub function::take-target_of-requires-clause-word : goal.function::take-target_of-requires-clause-word
 function::take-target_of-requires-clause-word g t c =
