@@ -58,10 +58,12 @@ add_programs() {
     fi
 }
 
-# add_units_why: adds units-why, its language server, and the files for editors, which name the path of the server.
+# add_units_why: adds units-why and the command that runs it over the library, its language server, and the files for
+# editors, which name the path of the server.
 add_units_why() {
     local file server=$prefix/share/$name/lsp/units_lsp.py
-    add 755 "$units_why" "$prefix/bin/units-why"
+    add 755 "$units_why" "$prefix/libexec/$name/units-why"
+    add_edited 755 "$root/bin/units-why" "$prefix/bin/units-why" "s/^name=units .*/name=$name/"
     add 644 "$root/tools/units_lsp.py" "$server"
     add 644 "$root/tools/units_lsp_files.py" "${server%/*}/units_lsp_files.py"
     for file in "$root"/share/editors/*; do

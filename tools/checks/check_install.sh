@@ -93,7 +93,13 @@ else
     skip 'there is no tools/lint/lint_units.py' 'units-lint'
 fi
 if [ -e "$HOME/.local/bin/units-why" ]; then
-    expect 'units-why' 0 $'\tDefinition: 0.9144 m\nyard: *' '$HOME/.local/bin/units-why yards'
+    expect 'units-why reads the library' 0 $'*\nyard: *share/units/length.units*' '$HOME/.local/bin/units-why yards'
+    expect '.. in its first command' 0 $'\tDefinition: 26.8224 m / s\nmph: *' '$HOME/.local/bin/units-why 60 mph'
+    expect '.. or a file of one'\''s own' 0 $'*\nyard: *.config/units/my.units*' 'mkdir -p $HOME/.config/units
+        printf "m !\nyard 1 m\n" > $HOME/.config/units/my.units; $HOME/.local/bin/units-why yards; rm -r $HOME/.config'
+    expect '.. or the built-in definitions' 0 $'*\nyard: *builtin:*' '$HOME/.local/bin/units-why --built-in yards'
+    expect '.. of the same version' 0 "units-why $version" '$HOME/.local/bin/units-why --version'
+    expect '.. from a clone' 0 $'*\nmph: *share/units/*' '$root/bin/units-why 60 mph'
     expect '.. in qunits' 0 $'*\nyard: *length.units*' '$HOME/.local/bin/qunits --why yards'
     expect '.. for Vim' 0 '' 'grep -q units-why $HOME/.local/share/vim/vimfiles/compiler/units_why.vim'
     expect '.. for editors' 0 '4' \
@@ -153,7 +159,7 @@ else
     skip 'the C library is not built' 'the C library and the Python package'
 fi
 expect 'the modes' 0 '' 'find $HOME/.local -type d ! -perm 755
-    find $HOME/.local -type f ! -perm 644 ! -path "*/bin/*" ! -name import_gnu.sh'
+    find $HOME/.local -type f ! -perm 644 ! -path "*/bin/*" ! -path "*/libexec/*" ! -name import_gnu.sh'
 for page in $pages; do
     if command -v man > /dev/null; then
         expect "the page of $page" 0 "*$page - *" "man -M \$HOME/.local/share/man $page"
