@@ -131,6 +131,7 @@ else
     expect 'nothing of it is installed' 0 '' 'find $HOME/.local -name "*why*" -o -name lsp -o -name editors'
     pages='units qunits units-lint'
 fi
+expect 'the schema' 0 '' 'cmp $HOME/.local/share/doc/units/units-why.schema.json $root/share/units-why.schema.json'
 expect 'the page' 0 '' 'cmp $HOME/.local/share/doc/units/units.html $root/release/units.html'
 if [ -e "$HOME/.local/lib/libunits.so.1" ]; then
     sed -n '/^```c$/,/^```$/p' "$root/docs/C_AND_PYTHON.md" | sed '/^```/d' > example.c
@@ -167,9 +168,9 @@ for page in $pages; do
         skip 'man is not installed' "the page of $page"
     fi
 done
-expect 'documents that the pages name' 0 '' 'grep -ohE "[^ ]*/share/doc/[^ ]*[.]md" $HOME/.local/share/man/man1/* |
-    sed "s/\\\\\\\\//g" | sort -u | while read -r file; do ls "$file" > /dev/null; done'
-expect '.. are not those of the repository' 1 '' 'grep -E "(^|[ (])docs/" $HOME/.local/share/man/man1/*'
+expect 'documents that the pages name' 0 '' 'grep -ohE "[^ ]*/share/doc/[^ ]*[.](md|json)" $HOME/.local/share/man/man1/* |
+    sed "s/\\\\//g" | sort -u | while read -r file; do ls "$file" > /dev/null; done'
+expect '.. are not those of the repository' 1 '' 'grep -E "(^|[ (])(docs/|share/.*json)" $HOME/.local/share/man/man1/*'
 unchanged 'again' "$HOME" 0 '*installed*' '$install'
 expect 'from another folder, with a relative prefix' 0 '*under '"$folder"'/a  b/c;*' '$install --prefix "a  b/c"'
 expect '.. units' 0 $'\t* 0.9144\n*' '"a  b/c/bin/units" yd m'

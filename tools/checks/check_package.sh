@@ -90,6 +90,7 @@ check_contents() {
     same 'the shared library' libunits.so.1 libexact-units1/usr/lib/x86_64-linux-gnu/libunits.so.1
     same 'the static library' libunits.a libexact-units-dev/usr/lib/x86_64-linux-gnu/libunits.a
     same 'the header' ../lib/units.h libexact-units-dev/usr/include/units.h
+    same 'the schema' ../share/units-why.schema.json exact-units-doc/usr/share/doc/exact-units/units-why.schema.json
     same 'the page' units.html exact-units-doc/usr/share/doc/exact-units/units.html
     expect 'the programs' 'exact-units qunits units-lint units-why' \
         "$(find "$folder/unpacked/exact-units/usr/bin" -type f -printf '%f\n' | sort | xargs)"
