@@ -143,8 +143,11 @@ if [ -e "$HOME/.local/lib/libunits.so.1" ]; then
             '"$compile"' && ./example'
         expect '.. over the shared library' 0 '1143|1250' 'gcc -o example -I$HOME/.local/include example.c \
             -L$HOME/.local/lib -l:libunits.so.1 && LD_LIBRARY_PATH=$HOME/.local/lib ./example'
+        printf '#include <stdio.h>\n#include <units.h>\nint main(void) { return puts(units_version()) < 0; }\n' > example.c
+        expect '.. of the same version' 0 "$version" "PKG_CONFIG_PATH=\$root/release; export PKG_CONFIG_PATH
+            $compile && ./example"
     else
-        skip 'gcc or pkg-config is not installed' 'a C program over the release, and over the install (3 cases)'
+        skip 'gcc or pkg-config is not installed' 'a C program over the release, and over the install (4 cases)'
     fi
     for wheel in "$root"/release/*.whl "$HOME"/.local/share/units/python/*.whl; do
         if HOME=$folder python3 -m venv venv 2> /dev/null; then
