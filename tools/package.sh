@@ -163,11 +163,12 @@ own_fields() {
 			Suggests: exact-units-doc, python3-exact-units, parallel, units
 			Description: unit converter that computes in exact fractions
 			 It reads the definition files of GNU units, computes in reduced fractions of
-			 127 bits, and answers exactly or refuses by name. Columns of CSV files and
-			 sessions with live definitions are part of it. The program is proved to meet
-			 its contracts. It is called exact-units, and qunits is the command for every
-			 day; units-why shows where a value comes from, and units-lint and a language
-			 server check definition files. Debian's own units may be installed beside it.
+			 127 bits, and gives an exact answer, or says why there is none. Columns of CSV
+			 files and sessions with live definitions are part of it. The program is proved
+			 to meet its contracts. It is called exact-units, and qunits is the command for
+			 every day; units-why shows where a value comes from, and units-lint and a
+			 language server check definition files. Debian's own units may be installed
+			 beside it.
 		END
         libexact-units1) cat <<- END ;;
 			Architecture: amd64
