@@ -746,6 +746,44 @@ The built-in definitions by name, which no file may be named beside.
   units-why: usage: units-why [options] EXPRESSION [UNIT], or units-why --lint [options]
   [2]
 
+The command of bin/ reads the words and the definitions of qunits, unless an option names other definitions.
+
+  $ places() { sed -n "s#$CLONE/##; s/.*\[\(.*\):.*/\1/p" | uniq; }
+  $ units-why 60 mph | head -n 1
+  \tDefinition: 26.8224 m / s (esc)
+  $ units-why 60 mph | places
+  share/units/speed.units
+  share/units/length.units
+  share/units/si.units
+  $ mkdir -p .config/units
+  $ printf 'm !\nmile 1600 m\nmile 1700 m\n' > .config/units/my.units
+  $ units-why 2 mile
+  \tDefinition: 3400 m (esc)
+  mile: unit, 1700 m = 1700 m ?*/.config/units/my.units:3; replaces */.config/units/my.units:2? (glob)
+    m: unit, ! = 1 m ?*/.config/units/my.units:1? (glob)
+  $ units-why --lint
+  */.config/units/my.units:2:1: mile: replaced by * (glob)
+  [1]
+  $ XDG_CONFIG_HOME=elsewhere units-why -d 3 2 yards to ft | places
+  share/units/length.units
+  share/units/si.units
+  share/units/length.units
+  share/units/si.units
+  $ units-why --built-in 2 mile | head -n 1
+  conformability error
+  $ units-why --built-in mile | places
+  builtin
+  $ for word in -fmetre.units --file=metre.units '-f metre.units' '--file metre.units'; do
+  >   units-why $word m | places
+  > done | uniq -c | sed 's/^ *//'
+  4 metre.units
+  $ units-why --version
+  units-why *.*.* (glob)
+  $ units-why
+  units-why: usage: units-why [options] EXPRESSION [UNIT], or units-why --lint [options]
+  [2]
+  $ rm -r .config
+
 Refused arguments, and files that cannot be read or written.
 
   $ units_why

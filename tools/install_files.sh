@@ -58,10 +58,12 @@ add_programs() {
     fi
 }
 
-# add_units_why: adds units-why, its language server, and the files for editors, which name the path of the server.
+# add_units_why: adds units-why and the command that runs it over the library, its language server, and the files for
+# editors, which name the path of the server.
 add_units_why() {
     local file server=$prefix/share/$name/lsp/units_lsp.py
-    add 755 "$units_why" "$prefix/bin/units-why"
+    add 755 "$units_why" "$prefix/libexec/$name/units-why"
+    add_edited 755 "$root/bin/units-why" "$prefix/bin/units-why" "s/^name=units .*/name=$name/"
     add 644 "$root/tools/units_lsp.py" "$server"
     add 644 "$root/tools/units_lsp_files.py" "${server%/*}/units_lsp_files.py"
     for file in "$root"/share/editors/*; do
@@ -95,7 +97,8 @@ add_library() {
 add_pages() {
     local page pages place_edits edits man=$root/share/man/man1
     place_edits="s#\\bdocs/([A-Z_]+\\.md)#$(as_roff "$prefix/share/doc/$name/docs")/\\1#g
-        s#\\btools/import_gnu\\.sh#$(as_roff "$prefix/share/$name")/import_gnu.sh#g"
+        s#\\btools/import_gnu\\.sh#$(as_roff "$prefix/share/$name")/import_gnu.sh#g
+        s#\\bshare/(units.*\\.schema\\.json)#$(as_roff "$prefix/share/doc/$name")/\\1#g"
     edits=$place_edits
     if [ "$name" != units ]; then
         edits+="
@@ -126,7 +129,7 @@ add_documents() {
         if [ -e "$root/$file" ]; then add_all 644 "$prefix/share/doc/$name" "$root/$file"; fi
     done
     add_all 644 "$prefix/share/doc/$name/examples" "$root"/examples/*
-    add 644 "$root/release/units.html" "$prefix/share/doc/$name/units.html"
+    add_all 644 "$prefix/share/doc/$name" "$root/release/units.html" "$root/share/units-why.schema.json"
     add 644 "$root/docs/C_AND_PYTHON.md" "$prefix/share/doc/$name/docs/C_AND_PYTHON.md"
 }
 

@@ -163,11 +163,12 @@ own_fields() {
 			Suggests: exact-units-doc, python3-exact-units, parallel, units
 			Description: unit converter that computes in exact fractions
 			 It reads the definition files of GNU units, computes in reduced fractions of
-			 127 bits, and answers exactly or refuses by name. Columns of CSV files and
-			 sessions with live definitions are part of it. The program is proved to meet
-			 its contracts. It is called exact-units, and qunits is the command for every
-			 day; units-why shows where a value comes from, and units-lint and a language
-			 server check definition files. Debian's own units may be installed beside it.
+			 127 bits, and gives an exact answer, or says why there is none. Columns of CSV
+			 files and sessions with live definitions are part of it. The program is proved
+			 to meet its contracts. It is called exact-units, and qunits is the command for
+			 every day; units-why shows where a value comes from, and units-lint and a
+			 language server check definition files. Debian's own units may be installed
+			 beside it.
 		END
         libexact-units1) cat <<- END ;;
 			Architecture: amd64
@@ -249,6 +250,7 @@ tarball_files() {
 		bin/qunits         converts, for everyday use: bin/qunits 60 mph to km/h
 		bin/units-why      shows the definitions that a value comes from
 		bin/units-lint     finds traps in definition files; needs Python 3.9
+		libexec            the program of bin/units-why
 		share              the library of units, manual pages, completions, files for Vim and other editors
 		lib/units.h        the header of the C library
 		release            the C library, the Python package (pip install release/*.whl), the page for a browser
@@ -269,13 +271,14 @@ tarball_files() {
 	END
 }
 
-# build_tarball: it has the layout of the repository without the sources; bin/units and bin/units-why are the programs.
+# build_tarball: it has the layout of the repository without the sources; bin/units is the program, and that of
+# bin/units-why is in libexec, as in an install.
 build_tarball() {
     local top=$work/$name-$version file
     mkdir -p "$top/bin" "$top/tools" "$top/lib" "$top/release" "$top/docs"
     install -m 755 "$root/release/units-x86_64-linux-static" "$top/bin/units"
-    install -m 755 "$root/release/units-why-x86_64-linux-static" "$top/bin/units-why"
-    for file in bin/qunits bin/units-lint tools/install.sh tools/import_gnu.sh tools/units_lsp.py; do
+    install -D -m 755 "$root/release/units-why-x86_64-linux-static" "$top/libexec/units/units-why"
+    for file in bin/qunits bin/units-why bin/units-lint tools/install.sh tools/import_gnu.sh tools/units_lsp.py; do
         install -m 755 "$root/$file" "$top/$file"
     done
     install -m 644 "$root/tools/install_files.sh" "$root/tools/units_lsp_files.py" "$top/tools"
@@ -292,10 +295,10 @@ build_tarball() {
         > "$top/README"
     cat > "$top/tools/built.sh" <<- 'END'
 		#!/bin/sh
-		# Prints the path of a program of bin/: in this tarball they are built already.
+		# Prints the path of a program: in this tarball they are built already.
 		if [ "$1" = --static ]; then shift; fi
-		case $1 in units_why) name=units-why ;; *) name=$1 ;; esac
-		cd "${0%/*}/.." && [ -x "bin/$name" ] && echo "$PWD/bin/$name"
+		case $1 in units_why) program=libexec/units/units-why ;; *) program=bin/$1 ;; esac
+		cd "${0%/*}/.." && [ -x "$program" ] && echo "$PWD/$program"
 	END
     chmod 755 "$top/tools/built.sh"
     tar --create --sort=name --format=ustar --owner=0 --group=0 --numeric-owner --mode=u+rwX,go+rX,go-w \

@@ -1,16 +1,15 @@
 # SPDX-License-Identifier: MIT OR Apache-2.0
 # Completions of units, qunits, units-why and units-lint for bash.
 
-# _units_names COMMAND FILE LOCALE: prints the names that the command converts. An empty FILE means the built-in
-# definitions.
+# _units_names COMMAND FILE LOCALE: prints the names that the command converts. An empty FILE means the definitions of
+# qunits, or for units the built-in ones.
 _units_names() {
     local program
     program=$(type -P "$1") || return
-    if [ "${program##*/}" = qunits ]; then
-        "$program" --names ${2:+-f "$2"} ${3:+-l "$3"}
-    else
-        "${program%/*}/qunits" --names -f "$2" ${3:+-l "$3"}
-    fi
+    case ${program##*/} in
+        qunits | units-why) "${program%/*}/qunits" --names ${2:+-f "$2"} ${3:+-l "$3"} ;;
+        *) "${program%/*}/qunits" --names -f "$2" ${3:+-l "$3"} ;;
+    esac
 }
 
 # _units_quoted QUOTE: reads names, and prints each one as it is written inside this quote, or without quotes. Leaves out

@@ -23,7 +23,7 @@ function __units_expression
         end
     end
     # An empty file name means the built-in definitions.
-    if test -n "$file"; or test (path basename $program) != qunits
+    if test -n "$file"; or not contains (path basename $program) qunits units-why
         set -a options -f (string replace -r '^~/' "$HOME/" -- "$file")
     end
     set -l qunits (path dirname $program)/qunits

@@ -83,6 +83,7 @@ NAMES = [
     ("NAME -f ~/own.units own_", r"NAME -f ~/own\.units own_unit "),
     ("qunits 1 furlo", r"qunits 1 furlong"),
     ("qunits 60 mile/fortn", r"qunits 60 mile/fortnight"),
+    ("units-why 1 furlo", r"units-why 1 furlong"),
     ("qunits -f lab.units 2 buffer_", r"qunits -f lab\.units 2 buffer_of_the_lab "),
 ]
 

@@ -93,7 +93,13 @@ else
     skip 'there is no tools/lint/lint_units.py' 'units-lint'
 fi
 if [ -e "$HOME/.local/bin/units-why" ]; then
-    expect 'units-why' 0 $'\tDefinition: 0.9144 m\nyard: *' '$HOME/.local/bin/units-why yards'
+    expect 'units-why reads the library' 0 $'*\nyard: *share/units/length.units*' '$HOME/.local/bin/units-why yards'
+    expect '.. in its first command' 0 $'\tDefinition: 26.8224 m / s\nmph: *' '$HOME/.local/bin/units-why 60 mph'
+    expect '.. or a file of one'\''s own' 0 $'*\nyard: *.config/units/my.units*' 'mkdir -p $HOME/.config/units
+        printf "m !\nyard 1 m\n" > $HOME/.config/units/my.units; $HOME/.local/bin/units-why yards; rm -r $HOME/.config'
+    expect '.. or the built-in definitions' 0 $'*\nyard: *builtin:*' '$HOME/.local/bin/units-why --built-in yards'
+    expect '.. of the same version' 0 "units-why $version" '$HOME/.local/bin/units-why --version'
+    expect '.. from a clone' 0 $'*\nmph: *share/units/*' '$root/bin/units-why 60 mph'
     expect '.. in qunits' 0 $'*\nyard: *length.units*' '$HOME/.local/bin/qunits --why yards'
     expect '.. for Vim' 0 '' 'grep -q units-why $HOME/.local/share/vim/vimfiles/compiler/units_why.vim'
     expect '.. for editors' 0 '4' \
@@ -125,6 +131,7 @@ else
     expect 'nothing of it is installed' 0 '' 'find $HOME/.local -name "*why*" -o -name lsp -o -name editors'
     pages='units qunits units-lint'
 fi
+expect 'the schema' 0 '' 'cmp $HOME/.local/share/doc/units/units-why.schema.json $root/share/units-why.schema.json'
 expect 'the page' 0 '' 'cmp $HOME/.local/share/doc/units/units.html $root/release/units.html'
 if [ -e "$HOME/.local/lib/libunits.so.1" ]; then
     sed -n '/^```c$/,/^```$/p' "$root/docs/C_AND_PYTHON.md" | sed '/^```/d' > example.c
@@ -136,8 +143,11 @@ if [ -e "$HOME/.local/lib/libunits.so.1" ]; then
             '"$compile"' && ./example'
         expect '.. over the shared library' 0 '1143|1250' 'gcc -o example -I$HOME/.local/include example.c \
             -L$HOME/.local/lib -l:libunits.so.1 && LD_LIBRARY_PATH=$HOME/.local/lib ./example'
+        printf '#include <stdio.h>\n#include <units.h>\nint main(void) { return puts(units_version()) < 0; }\n' > example.c
+        expect '.. of the same version' 0 "$version" "PKG_CONFIG_PATH=\$root/release; export PKG_CONFIG_PATH
+            $compile && ./example"
     else
-        skip 'gcc or pkg-config is not installed' 'a C program over the release, and over the install (3 cases)'
+        skip 'gcc or pkg-config is not installed' 'a C program over the release, and over the install (4 cases)'
     fi
     for wheel in "$root"/release/*.whl "$HOME"/.local/share/units/python/*.whl; do
         if HOME=$folder python3 -m venv venv 2> /dev/null; then
@@ -153,7 +163,7 @@ else
     skip 'the C library is not built' 'the C library and the Python package'
 fi
 expect 'the modes' 0 '' 'find $HOME/.local -type d ! -perm 755
-    find $HOME/.local -type f ! -perm 644 ! -path "*/bin/*" ! -name import_gnu.sh'
+    find $HOME/.local -type f ! -perm 644 ! -path "*/bin/*" ! -path "*/libexec/*" ! -name import_gnu.sh'
 for page in $pages; do
     if command -v man > /dev/null; then
         expect "the page of $page" 0 "*$page - *" "man -M \$HOME/.local/share/man $page"
@@ -161,9 +171,9 @@ for page in $pages; do
         skip 'man is not installed' "the page of $page"
     fi
 done
-expect 'documents that the pages name' 0 '' 'grep -ohE "[^ ]*/share/doc/[^ ]*[.]md" $HOME/.local/share/man/man1/* |
-    sed "s/\\\\\\\\//g" | sort -u | while read -r file; do ls "$file" > /dev/null; done'
-expect '.. are not those of the repository' 1 '' 'grep -E "(^|[ (])docs/" $HOME/.local/share/man/man1/*'
+expect 'documents that the pages name' 0 '' 'grep -ohE "[^ ]*/share/doc/[^ ]*[.](md|json)" $HOME/.local/share/man/man1/* |
+    sed "s/\\\\//g" | sort -u | while read -r file; do ls "$file" > /dev/null; done'
+expect '.. are not those of the repository' 1 '' 'grep -E "(^|[ (])(docs/|share/.*json)" $HOME/.local/share/man/man1/*'
 unchanged 'again' "$HOME" 0 '*installed*' '$install'
 expect 'from another folder, with a relative prefix' 0 '*under '"$folder"'/a  b/c;*' '$install --prefix "a  b/c"'
 expect '.. units' 0 $'\t* 0.9144\n*' '"a  b/c/bin/units" yd m'

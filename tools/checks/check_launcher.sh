@@ -71,7 +71,7 @@ mv two/tools/away.sh two/tools/built.sh
 expect 'the program for users' 0 $'release/units-x86_64-linux-static\n' '' 'cd two && sh crates/units/out/current.sh'
 expect 'the program that shows sources' 0 "$answer" '' "two/bin/units-why $yard"
 expect '.. is found at once' 0 $'release/units-why-x86_64-linux-static\n' '' \
-    'two/bin/units-why m > /dev/null; cd two && sh crates/units_why/out/current.sh'
+    "two/bin/units-why $yard > /dev/null; cd two && sh crates/units_why/out/current.sh"
 record=crates/units/out/current.sh
 expect 'from another folder' 0 "$answer" '' 'cd two/examples && ../bin/units --exact -f first.units yd m'
 ln -s two/bin/units link

@@ -86,10 +86,11 @@ files_of() { (cd "$folder/unpacked/$1" && find usr -not -type d -printf '/%p\n' 
 check_contents() {
     local package owner
     same 'units' units-x86_64-linux-static exact-units/usr/bin/exact-units
-    same 'units-why' units-why-x86_64-linux-static exact-units/usr/bin/units-why
+    same 'units-why' units-why-x86_64-linux-static exact-units/usr/libexec/exact-units/units-why
     same 'the shared library' libunits.so.1 libexact-units1/usr/lib/x86_64-linux-gnu/libunits.so.1
     same 'the static library' libunits.a libexact-units-dev/usr/lib/x86_64-linux-gnu/libunits.a
     same 'the header' ../lib/units.h libexact-units-dev/usr/include/units.h
+    same 'the schema' ../share/units-why.schema.json exact-units-doc/usr/share/doc/exact-units/units-why.schema.json
     same 'the page' units.html exact-units-doc/usr/share/doc/exact-units/units.html
     expect 'the programs' 'exact-units qunits units-lint units-why' \
         "$(find "$folder/unpacked/exact-units/usr/bin" -type f -printf '%f\n' | sort | xargs)"
@@ -128,7 +129,7 @@ check_tarball() {
             | grep -vx 'bin\|tools\|lib' | sort)"
     expect 'the program of the tarball' $'\t* 32.808399' "$("$top/bin/units" -1 '10 m' ft 2>&1)"
     expect 'qunits of the tarball' $'\t* 96.56064' "$("$top/bin/qunits" -1 60 mph to km/h 2>&1)"
-    expect 'units-why of the tarball' $'\tDefinition: 1000 m' "$("$top/bin/units-why" km 2> /dev/null | head -n 1)"
+    expect 'units-why of the tarball' $'\tDefinition: 26.8224 m / s' "$("$top/bin/units-why" 60 mph 2>&1 | head -n 1)"
     expect 'qunits --why of the tarball' $'\tDefinition: mile / hour = 0.44704 m / s' "$("$top/bin/qunits" --why mph 2>&1 | head -n 1)"
     expect 'the Python package of the tarball' 301752/3125 \
         "$(mkdir "$folder/wheel" && python3 -m zipfile -e "$top"/release/*.whl "$folder/wheel" \
@@ -189,6 +190,7 @@ check_chroot() {
     expect 'the program' $'\t* 32.808399' "$(in_chroot exact-units -1 '10 m' ft)"
     expect 'qunits' $'\t* 96.56064' "$(in_chroot qunits -1 60 mph to km/h)"
     expect 'qunits --why' $'\tDefinition: mile / hour = 0.44704 m / s' "$(in_chroot qunits --why mph | head -n 1)"
+    expect 'units-why' $'\tDefinition: 26.8224 m / s' "$(in_chroot units-why 60 mph | head -n 1)"
     expect 'Python' 301752/3125 "$(in_chroot python3 -c "$mph" 2>&1)"
     expect 'Python over a session' 301752/3125 "$(in_chroot python3 -c "${mph/()/(backend=\"session\")}" 2>&1)"
     expect 'units is still that of GNU' 'GNU Units version 2.22' "$(in_chroot units --version | head -n 1)"

@@ -78,7 +78,7 @@ start_server() {
 is_usable() {
     case $1 in
         ssh) [ -e "$folder/programs/ssh" ] || start_server ;;
-        units-why) "$root/bin/units-why" m > /dev/null 2>&1 ;;
+        units-why) "$root/bin/units-why" --version > /dev/null 2>&1 ;;
         *) command -v "$1" > /dev/null ;;
     esac
 }
