@@ -49,7 +49,7 @@ int __wrap_main(int count, char **arguments) {
 
 size_t rattle_arg_count(void) { return word_count; }
 
-// The length of a text, 16 bytes at a time. Aligned reads stay in the pages of the text, even if they reach past its end.
+// The length of a text, 16 bytes at a time. Aligned reads stay in the pages of the text, even if they go past its end.
 static size_t length_of(const char *text) {
     typedef char bytes __attribute__((vector_size(16), may_alias));
     unsigned before = (uintptr_t)text % sizeof(bytes);
