@@ -11,7 +11,7 @@ set -u
 script=$(readlink -f "${BASH_SOURCE[0]}") || exit
 root=${script%/*/*/*}
 static=$root/release/units-x86_64-linux-static
-dynamic=$root/release/units-x86_64-linux
+dynamic=$root/crates/units/out/units
 object=$root/crates/units/out/units.o
 passed=0 failed=0 skipped=0
 
@@ -106,7 +106,10 @@ takes_memory_as_dynamic() {
 
 # Long blocks that are made and freed in turn, and edits of a deck.
 check_memory() {
-    if ! has time; then skip 'the memory of both programs, which needs GNU time'; return; fi
+    if ! has time || ! [ -x "$dynamic" ]; then
+        skip 'the memory of both programs, which needs GNU time and a dynamic program that bin/test built'
+        return
+    fi
     local deck=$folder/deck.units long_from
     { echo 'm !'; seq -f 'v_%ga 2 m' 2000; } > "$deck"
     echo 'w 2 m' > "$folder/line.units"

@@ -24,10 +24,10 @@ struct allocation {
 };
 
 // A block begins with its size, which includes this header. The program's part follows, aligned to 16 bytes, the widest
-// alignment that the toolchain requests. A freed block leads to the next one of its class.
+// alignment that the toolchain requests. In a freed block, it leads to the program's part of the next one of its class.
 struct block {
     size_t size;
-    struct block *next;
+    void *next;
 };
 
 enum {
@@ -56,7 +56,7 @@ struct pages {
     size_t size;
 };
 
-static struct block *freed[CLASSES];
+static void *freed[CLASSES]; // the program's part of a freed block, NULL if there is none
 static struct pages kept[MOST_KEPT]; // no two of them are neighbours
 static unsigned kept_count;
 static size_t kept_bytes;
@@ -86,11 +86,23 @@ static size_t class_of(size_t size) {
     return SMALL / UNIT + doublings * STEPS + size / step - STEPS;
 }
 
+static struct block *block_of(void *part) { return (struct block *)((char *)part - HEADER); }
+
+static inline void put_in_class(void *part, size_t class) {
+    block_of(part)->next = freed[class];
+    freed[class] = part;
+}
+
+// The program's part of a freed block of this class, NULL if there is none.
+static inline void *take_of_class(size_t class) {
+    void *part = freed[class];
+    if (part != NULL) freed[class] = block_of(part)->next;
+    return part;
+}
+
 static void put(struct block *block, size_t size) {
-    size_t class = class_of(size);
     block->size = size;
-    block->next = freed[class];
-    freed[class] = block;
+    put_in_class(&block->next, class_of(size));
 }
 
 // Frees memory of whole units, as blocks of the largest classes that fit.
@@ -188,11 +200,10 @@ static void use_as_chunk(char *memory, size_t length) {
 static bool begin_chunk(size_t size) {
     leave_chunk();
     for (size_t class = size <= SMALL ? SMALL / UNIT + 1 : class_of(size); class < CLASSES; class++) {
-        struct block *block = freed[class];
-        if (block == NULL) continue;
-        freed[class] = block->next;
-        unused = (char *)block;
-        end_of_chunk = unused + block->size;
+        void *part = take_of_class(class);
+        if (part == NULL) continue;
+        unused = (char *)block_of(part);
+        end_of_chunk = unused + block_of(part)->size;
         return true;
     }
     size_t length = in_chunks / 4 & -PAGE;
@@ -252,12 +263,9 @@ __attribute__((noinline)) static struct allocation block_of_new_chunk(size_t siz
 }
 
 static inline struct allocation block_of_class(size_t class, size_t size) {
-    struct block *block = freed[class];
-    if (block != NULL) {
-        freed[class] = block->next;
-        return (struct allocation){true, &block->next}; // of the same size as before
-    }
-    return (size_t)(end_of_chunk - unused) >= size ? next_block(size) : block_of_new_chunk(size);
+    void *part = take_of_class(class);
+    if (part != NULL) return (struct allocation){true, part}; // of the same size as before
+    return unused + size <= end_of_chunk ? next_block(size) : block_of_new_chunk(size);
 }
 
 // Whether the growing block may have this size.
@@ -288,22 +296,31 @@ struct allocation rattle_alloc(size_t bytes, size_t align) {
     return bytes <= SMALL - HEADER ? block_of_class(size / UNIT, size) : new_block(block_size(bytes));
 }
 
-void rattle_dealloc(void *old) {
-    struct block *block = (struct block *)((char *)old - HEADER);
+// rattle_dealloc for blocks that are not small.
+__attribute__((noinline)) static void free_block(struct block *block) {
     if (block->size <= LARGE) {
         put(block, block->size);
         return;
     }
     if (block == growing) growing = NULL;
     if (is_in_huge_page(block)) put_all((char *)block, block->size);
-    else free_pages((char *)old - UNIT, block->size);
+    else free_pages((char *)block + HEADER - UNIT, block->size);
 }
 
-// Whether the last block of the chunk should get this size in place. It should not grow if a block of that size was
-// freed, since a vector that grows over and over would then take new memory each time and never the freed one.
-static bool can_end_at_chunk(const struct block *block, size_t size) {
-    return size <= LARGE && (size_t)(end_of_chunk - (char *)block) >= size
-        && (size < block->size || freed[class_of(size)] == NULL);
+void rattle_dealloc(void *old) {
+    size_t size = block_of(old)->size;
+    if (size <= SMALL) put_in_class(old, size / UNIT);
+    else free_block(block_of(old));
+}
+
+// Gives the last block of the chunk this size, if there is room. It should not grow if a block of that size was freed,
+// since a vector that grows over and over would then take new memory each time and never the freed one.
+static inline bool resize_last(struct block *block, size_t size, size_t class) {
+    if ((char *)block + block->size != unused || (char *)block + size > end_of_chunk) return false;
+    if (size > block->size && freed[class] != NULL) return false;
+    unused = (char *)block + size;
+    block->size = size;
+    return true;
 }
 
 // Resizes a block with pages of its own. EFAULT says that it has to be copied: there are kept pages for it, or the system
@@ -318,8 +335,9 @@ static struct allocation resized_pages(char *at, size_t before, size_t size) {
     return block_of_pages(at, size);
 }
 
-struct allocation rattle_realloc(void *old, size_t kept, size_t bytes, size_t align) {
-    struct block *block = (struct block *)((char *)old - HEADER);
+// rattle_realloc for blocks of which one is not small.
+__attribute__((noinline)) static struct allocation resized_block(void *old, size_t kept, size_t bytes) {
+    struct block *block = block_of(old);
     size_t size = block_size(bytes), before = block->size;
     if (size == before) return some(block, size);
     if (block == growing && fits_growing(size)) return some(block, size);
@@ -327,13 +345,23 @@ struct allocation rattle_realloc(void *old, size_t kept, size_t bytes, size_t al
         struct allocation resized = resized_pages((char *)old - UNIT, before, size);
         if (resized.found || errno != EFAULT) return resized;
     }
-    if ((char *)block + before == unused && can_end_at_chunk(block, size)) {
-        unused = (char *)block + size;
-        return some(block, size);
-    }
-    struct allocation moved = rattle_alloc(bytes, align);
+    if (size <= LARGE && resize_last(block, size, class_of(size))) return (struct allocation){true, old};
+    struct allocation moved = rattle_alloc(bytes, UNIT);
     if (!moved.found) return moved;
     memcpy(moved.block, old, kept < bytes ? kept : bytes);
     rattle_dealloc(old);
+    return moved;
+}
+
+struct allocation rattle_realloc(void *old, size_t kept, size_t bytes, size_t align) {
+    (void)align;
+    struct block *block = block_of(old);
+    if (bytes > SMALL - HEADER || block->size > SMALL) return resized_block(old, kept, bytes);
+    size_t size = rounded(bytes + HEADER, UNIT), class = size / UNIT;
+    if (size == block->size || resize_last(block, size, class)) return (struct allocation){true, old};
+    struct allocation moved = block_of_class(class, size);
+    if (!moved.found) return moved;
+    memcpy(moved.block, old, kept < bytes ? kept : bytes);
+    put_in_class(old, block->size / UNIT);
     return moved;
 }

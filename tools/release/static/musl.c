@@ -4,6 +4,7 @@
 #include <signal.h>
 #include <stddef.h>
 #include <stdint.h>
+#include <string.h>
 #include <sys/mman.h>
 #include <sys/syscall.h>
 #include <unistd.h>
@@ -48,13 +49,21 @@ int __wrap_main(int count, char **arguments) {
 
 size_t rattle_arg_count(void) { return word_count; }
 
+// The length of a text, 16 bytes at a time. Aligned reads stay in the pages of the text, even if they go past its end.
+static size_t length_of(const char *text) {
+    typedef char bytes __attribute__((vector_size(16), may_alias));
+    unsigned before = (uintptr_t)text % sizeof(bytes);
+    const bytes *part = (const bytes *)(text - before);
+    unsigned zeros = (unsigned)__builtin_ia32_pmovmskb128(*part == 0) >> before << before;
+    while (zeros == 0) zeros = (unsigned)__builtin_ia32_pmovmskb128(*++part == 0);
+    return (size_t)((const char *)part - text) + (unsigned)__builtin_ctz(zeros);
+}
+
 // Copies a text without its final zero and returns its length, -2 if it is too long.
 static ssize_t copy_text(const char *text, char *to, size_t room) {
-    size_t length = 0;
-    for (; text[length] != 0; length++) {
-        if (length == room) return -2;
-        to[length] = text[length];
-    }
+    size_t length = length_of(text);
+    if (length > room) return -2;
+    memcpy(to, text, length);
     return (ssize_t)length;
 }
 
@@ -122,39 +131,56 @@ typedef uint16_t two __attribute__((aligned(1), may_alias));
         *(type *)(to + n - sizeof(type)) = last;                                                                       \
     } while (0)
 
-static void copy_to_64(char *to, const char *from, size_t n) {
+static inline void copy_to_15(char *to, const char *from, size_t n) {
+    if (n >= 8) COPY_ENDS(eight);
+    else if (n >= 4) COPY_ENDS(four);
+    else if (n >= 2) COPY_ENDS(two);
+    else if (n == 1) *to = *from;
+}
+
+static inline void copy_to_64(char *to, const char *from, size_t n) {
     if (n > 32) {
         wide first[2] = {((const wide *)from)[0], ((const wide *)from)[1]};
         wide last[2] = {((const wide *)(from + n - 32))[0], ((const wide *)(from + n - 32))[1]};
         ((wide *)to)[0] = first[0], ((wide *)to)[1] = first[1];
         ((wide *)(to + n - 32))[0] = last[0], ((wide *)(to + n - 32))[1] = last[1];
-    } else if (n >= 16) {
+    } else {
         COPY_ENDS(wide);
-    } else if (n >= 8) {
-        COPY_ENDS(eight);
-    } else if (n >= 4) {
-        COPY_ENDS(four);
-    } else if (n >= 2) {
-        COPY_ENDS(two);
-    } else if (n == 1) {
-        *to = *from;
     }
+}
+
+static void copy_64(char *to, const char *from) {
+    const wide *source = (const wide *)from;
+    wide first[4] = {source[0], source[1], source[2], source[3]}, *target = (wide *)to;
+    target[0] = first[0], target[1] = first[1], target[2] = first[2], target[3] = first[3];
+}
+
+// Copies more than 64 bytes, if none is read after it is written. The last 64 are read first.
+static void copy_up(char *to, const char *from, size_t n) {
+    const wide *source = (const wide *)(from + n - 64);
+    wide last[4] = {source[0], source[1], source[2], source[3]}, *target = (wide *)(to + n - 64);
+    for (; n > 256; n -= 256, to += 256, from += 256) {
+        copy_64(to, from), copy_64(to + 64, from + 64), copy_64(to + 128, from + 128), copy_64(to + 192, from + 192);
+    }
+    for (; n > 64; n -= 64, to += 64, from += 64) copy_64(to, from);
+    target[0] = last[0], target[1] = last[1], target[2] = last[2], target[3] = last[3];
+}
+
+// Copies more than 64 bytes from the end to the start. The first 64 are read first.
+static void copy_down(char *to, const char *from, size_t n) {
+    const wide *source = (const wide *)from;
+    wide first[4] = {source[0], source[1], source[2], source[3]}, *target = (wide *)to;
+    for (; n > 64; n -= 64) copy_64(to + n - 64, from + n - 64);
+    target[0] = first[0], target[1] = first[1], target[2] = first[2], target[3] = first[3];
 }
 
 void *memmove(void *target, const void *source, size_t n) {
     char *to = target;
     const char *from = source;
-    if (n <= 64) {
-        copy_to_64(to, from, n);
-    } else if ((uintptr_t)to - (uintptr_t)from >= n) { // no byte is read after it is written
-        wide last = *(const wide *)(from + n - 16);
-        for (size_t i = 0; i < n - 16; i += 16) *(wide *)(to + i) = *(const wide *)(from + i);
-        *(wide *)(to + n - 16) = last;
-    } else {
-        wide first = *(const wide *)from;
-        for (size_t i = n - 16; i > 0; i = i > 16 ? i - 16 : 0) *(wide *)(to + i) = *(const wide *)(from + i);
-        *(wide *)to = first;
-    }
+    if (n < 16) copy_to_15(to, from, n); // most copies are of names and of numbers
+    else if (n <= 64) copy_to_64(to, from, n);
+    else if ((uintptr_t)to - (uintptr_t)from >= n) copy_up(to, from, n);
+    else copy_down(to, from, n);
     return target;
 }
 
@@ -170,6 +196,9 @@ void *memset(void *target, int value, size_t n) {
     } else if (n >= 8) {
         *(eight *)to = eights;
         *(eight *)(to + n - 8) = eights;
+    } else if (n >= 4) {
+        *(four *)to = (uint32_t)eights;
+        *(four *)(to + n - 4) = (uint32_t)eights;
     } else {
         for (size_t i = 0; i < n; i++) ((volatile char *)to)[i] = (char)value;
     }
