@@ -8,7 +8,7 @@
 docs/DEFINITIONS.md introduces the definitions that a reader of the headline meets. A row names definitions in its
 first column and their files, as `crate/File File..`, in its third. docs/definition_marks.txt marks the other files that the
 headline reaches: `library FILE` for general vocabulary, `engine FILE REASON` for computations whose result a law
-describes. The headline is the set of definitions that the contract of `units_main` cites. In a crate, each name has one
+describes. The headline is what the contracts of `units_main` and `run_on` cite. In a crate, each name has one
 definition: a reader who meets it finds the right one by searching the crate. The last line is `N passed, M failed`.
 """
 
@@ -20,27 +20,18 @@ from dataclasses import dataclass
 from pathlib import Path
 
 sys.path.insert(0, str(Path(__file__).resolve().parent))
-from spec_index import ROOT, Name, all_definitions, reached_from, read_file  # noqa: E402
+from spec_index import CRATES, ROOT, Name, all_definitions, home_of, imports_of, reached_from, read_file  # noqa: E402
 
 PAGE = ROOT / "docs/DEFINITIONS.md"
 INDEX = ROOT / "docs/INDEX.md"
 MARKS = ROOT / "docs/definition_marks.txt"
-# The definitions that the contract of `units_main` cites.
-HEADLINE = [
-    Name("units_run", "Headline", "IsRun"),
-    Name("units_run", "GrantedConversions", "RunGrantsExactly"),
-    Name("units_run", "LeftAlone", "RunTakesNoInput"),
-    Name("units_run", "LeftAlone", "RunOpensNoSession"),
-    Name("units_run", "Openings", "IsPlanOpened"),
-    Name("units_run", "Openings", "first_plan_text_on_err"),
-    Name("units_run", "Needs", "run_needs_definitions"),
-    Name("session", "HeardLines", "HeardInputNamesNoFile"),
-    Name("stream_run", "StreamRuns", "IsProcessRun"),
-    Name("stream_run", "StreamRuns", "PrintsRun"),
-]
+# The files of the top calls. The headline is what their contracts cite.
+TOP_CALLS = ("units_run/src/run.rt", "units/src/main.rt")
 # Names with two definitions that wait until their crate is changed for another reason: a new name changes proofs.
 TWICE = {"def_entry/heading_of", "value_sources/unknown_mention"}
 QUOTED = re.compile(r"`([^`]+)`")
+# A word of a reason that can only be the name of a definition.
+CITED = re.compile(r"\b(\w+_\w+|\w+Laws?)\b")
 MOST_BYTES = 10 * 1024
 INTRODUCTION = """# Index of definitions
 
@@ -98,19 +89,31 @@ def check_page(rows: list[Row]) -> list[str]:
     return faults
 
 
+def headline() -> list[Name]:
+    """The definitions that the files of the top calls import for their contracts."""
+    cited: list[Name] = []
+    for path in TOP_CALLS:
+        text = (CRATES / path).read_text().replace("ghost use", "use")
+        names, modules = imports_of(text)
+        words = [(alias, word) for alias, word in re.findall(r"\b(\w+)\.(\w+)", text) if alias in modules]
+        cited += [*names.values(), *(Name(*modules[alias], word) for alias, word in words)]
+    return sorted({home for name in cited if (home := home_of(name))})
+
+
 def files_without_mark(rows: list[Row]) -> list[str]:
     """The files that the headline reaches and no page or mark covers, each with the definitions reached."""
     known_files = {file for row in rows for file in row.files} | set(marks())
     open_files: dict[str, list[str]] = {}
-    for name in reached_from(HEADLINE):
+    for name in reached_from(headline()):
         if name.file not in known_files:
             open_files.setdefault(name.file, []).append(name.word)
     return [f"{file}: {' '.join(sorted(words))}" for file, words in sorted(open_files.items())]
 
 
 def check_marks(rows: list[Row]) -> list[str]:
-    """Faults of the marks: unknown kinds or files, files that the page has too, engine files without a reason."""
-    page = {file for row in rows for file in row.files}
+    """Faults of the marks: unknown kinds or files, files that the page has too, engine files without a reason, and
+    reasons that name no definition."""
+    page, defined = {file for row in rows for file in row.files}, {name.word for name in all_definitions()}
     faults = []
     for line in MARKS.read_text().splitlines() if MARKS.exists() else []:
         mark, file, *reason = line.split() if line.strip() and not line.startswith("#") else ("library", "", "")
@@ -122,6 +125,8 @@ def check_marks(rows: list[Row]) -> list[str]:
             faults.append(f"definition_marks.txt: {file} is on the page too")
         elif mark == "engine" and not reason:
             faults.append(f"definition_marks.txt: {file} has no reason: name the law that describes its result")
+        unknown = [word for word in CITED.findall(" ".join(reason)) if word not in defined]
+        faults += [f"definition_marks.txt: {file}: {word} is not defined" for word in unknown]
     return faults
 
 def names_defined_twice() -> list[str]:
