@@ -8,7 +8,7 @@
 - The version in CHANGELOG.md, the manual pages, the citation, the header, the Python package and each file of the
   release is the same, and so is the date in the first three.
 - Each relative link in a document leads to a file.
-- The manual pages of units and qunits have each session line that begins with a colon.
+- The manual pages of units and qunits and the help of sessions have each session line that begins with a colon.
 - No document exceeds its limit in LIMITS, and all but tables stay within SUM_LIMIT.
 
 Each fault is printed; the last line is `N passed, M failed`.
@@ -155,7 +155,7 @@ def check_links() -> list[str]:
 
 def check_session_lines() -> list[str]:
     words = re.findall(r'b"(:\w+)"', (ROOT / "crates/session/src/colon_word.rt").read_text())
-    pages = [ROOT / "share/man/man1" / name for name in ("units.1", "qunits.1")]
+    pages = [ROOT / "share" / name for name in ("man/man1/units.1", "man/man1/qunits.1", "qunits/session_help.txt")]
     faults = [f"{page.name} lacks {word}" for page in pages for word in words if word not in page.read_text()]
     return faults if words else ["colon_word.rt has no session line"]
 
