@@ -281,6 +281,10 @@ In a session, lines go to `units` unchanged.
   \t* 4046.8564 (esc)
   \t/ 0.00024710538 (esc)
   unknown unit: to
+  $ printf '1 ft\n:help\nm\n' | apart qunits -q
+  unknown command: :help
+  \t* 0.3048 (esc)
+  \t/ 3.2808399 (esc)
   $ echo 1 ft | qunits | grep -c 'nonlinear units'
   1
   $ ls -A

@@ -51,7 +51,7 @@ add_programs() {
     program=$("$root/tools/built.sh" --static units) || give_up 'there is no program to install'
     add 755 "$program" "$prefix/bin/$name"
     add_edited 755 "$root/bin/qunits" "$prefix/bin/qunits" "s/^name=units .*/name=$name/"
-    add_all 644 "$prefix/share/qunits" "$root"/share/qunits/{functions,terminal}.sh "$root/share/qunits/first.units"
+    add_all 644 "$prefix/share/qunits" "$root"/share/qunits/{functions,terminal}.sh "$root"/share/qunits/{first.units,session_help.txt}
     if [ -e "$root/tools/lint/lint_units.py" ]; then
         add_edited 755 "$root/bin/units-lint" "$prefix/bin/units-lint" "s/^name=units .*/name=$name/"
         add_all 644 "$prefix/share/$name/lint" "$root"/tools/lint/{lint_units,unit_answers,unit_files,unit_names}.py

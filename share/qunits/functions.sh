@@ -28,7 +28,7 @@ list_names() {
         awk -F '\t' 'NF > 2 && $2 !~ /-$/ { sub(/^!unitlist /, "", $2); sub(/\(\)$/, "", $2); print $2 }'
 }
 
-show_names() { if [ -t 1 ]; then list_names | visible '\n'; else list_names; fi; }
+session_commands() { sed -n 's/^  \(:\{0,1\}[a-z]\{1,\}\).*/\1/p' "$root/share/qunits/session_help.txt"; }
 
 # with_fractions TEXT: prints 3/4 in as 3|4 in, and 2 1/2 cups as (2+1|2) cups; units would divide by the unit. Prints
 # 1½ cups and 1 ½ cups as (1+½) cups, since units would multiply, and m² as m^2.

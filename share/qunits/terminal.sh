@@ -55,10 +55,22 @@ run_visibly() {
     return "$code"
 }
 
-# session_filter: a program in Perl that runs its operands as a command. What the command writes to a terminal is shown as
-# `visible` shows it, and at once, since a prompt has no line feed. It ends with the status or by the signal of the command.
+# show_list COMMAND..: shows the output of the command, on a terminal by a pager. An interrupt goes to the pager alone.
+show_list() {
+    if ! [ -t 1 ]; then "$@"; return; fi
+    pager=${PAGER-less -FRX}
+    if [ "${TERM-dumb}" = dumb ] || ! command -v "${pager%% *}" > /dev/null; then pager='cat'; fi
+    trap : INT
+    { "$@" | visible '\n'; } 2> /dev/null | LESS=${LESS-FRX} sh -c "trap : INT; $pager" # no word of a pager that ends early
+    trap - INT
+}
+
+# session_filter: a program in Perl. Its first operand is the help of sessions, the others are a command, which it runs.
+# What the command writes to a terminal is shown as `visible` shows it, and at once, since a prompt has no line feed. If
+# there is a help, it answers the lines :help of the keyboard. It ends with the status or by the signal of the command.
 # shellcheck disable=SC2016,SC2034 # Perl expands these variables, and bin/qunits uses this one
 session_filter='
+    my $help = shift;
     my $letter = qr/[\t\n -~] | [\xc2-\xdf][\x80-\xbf]
         | \xe0[\xa0-\xbf][\x80-\xbf] | \xed[\x80-\x9f][\x80-\xbf] | [\xe1-\xec\xee\xef][\x80-\xbf]{2}
         | \xf0[\x90-\xbf][\x80-\xbf]{2} | [\xf1-\xf3][\x80-\xbf]{3} | \xf4[\x80-\x8f][\x80-\xbf]{2}/x;
@@ -77,18 +89,58 @@ session_filter='
         return 1;
     }
 
-    # relay PIPE, TERMINAL: shows what arrives through the pipe. A letter that has not arrived whole waits for its rest.
+    # answer LINE, TERMINAL, COMMAND, PROMPT: shows the help and the prompt, or writes another line to the command. Returns
+    # the prompt that is shown.
+    sub answer {
+        my ($line, $terminal, $command, $prompt) = @_;
+        return show($terminal, "$help\n$prompt") ? $prompt : "" if $line =~ /^\s*:help(?![^\s#])/;
+        local $SIG{PIPE} = "IGNORE";
+        while ($line ne "") {
+            my $size = syswrite $command, $line;
+            last if !defined $size && !$!{EINTR}; # it has ended
+            substr($line, 0, $size // 0) = "";
+        }
+        return "";
+    }
+
+    # read_keys TYPED, COMMAND: appends to the text what is typed. Returns false at its end, after which the command gets
+    # the rest and no more.
+    sub read_keys {
+        my $size = sysread STDIN, $_[0], 65536, length $_[0];
+        return 1 if $size || (!defined $size && $!{EINTR});
+        answer($_[0], *STDOUT, $_[1], "");
+        close $_[1];
+        return 0;
+    }
+
+    # relay PIPE, TERMINAL, COMMAND: shows what arrives through the pipe. A letter that has not arrived whole waits for its
+    # rest. With a help, a typed line waits until the command prompts for it: so the help comes after all earlier replies,
+    # and what is typed after the last line stays for the shell.
     sub relay {
-        my ($pipe, $terminal) = @_;
-        my $rest = "";
+        my ($pipe, $terminal, $command) = @_;
+        my ($rest, $typed, $prompt, $is_open) = ("", "", "", $help ne "");
         binmode $_ for $pipe, $terminal;
         while (1) {
+            my $is_asked = $is_open && $prompt =~ /^You (?:have|want): \z/;
+            if ($is_asked && $typed =~ s/^(.*\n)//) {
+                $prompt = answer($1, $terminal, $command, $prompt);
+                next;
+            }
+            my $ready = "";
+            vec($ready, fileno $pipe, 1) = 1;
+            vec($ready, fileno STDIN, 1) = 1 if $is_asked;
+            next if select($ready, undef, undef, undef) < 0;
+            if (!vec($ready, fileno $pipe, 1)) {
+                $is_open = read_keys($typed, $command);
+                next;
+            }
             my $size = sysread $pipe, my $text, 65536;
             next if !defined $size && $!{EINTR};
             last if !$size;
             $text = $rest . $text;
             $rest = $text =~ s/($beginning)// ? $1 : "";
             show($terminal, $text) or return;
+            ($prompt) = "$prompt$text" =~ /([^\n]{0,10})\z/;
         }
         show($terminal, $rest);
     }
@@ -97,16 +149,17 @@ session_filter='
     # passes signals on, since the command decides what they do, and then ends in the same way.
     sub filter {
         my ($terminal, @streams) = @_;
-        pipe(my $from, my $to) && defined(my $child = fork) or die "qunits: $!\n";
+        pipe(my $from, my $to) && pipe(my $lines, my $command) && defined(my $child = fork) or die "qunits: $!\n";
         if (!$child) {
             open $_, ">&", $to or die "qunits: $!\n" for @streams;
+            $help eq "" or open STDIN, "<&", $lines or die "qunits: $!\n";
             return;
         }
         my @signals = ("INT", "QUIT", "TERM", "HUP");
         $SIG{$_} = sub { kill $_[0], $child } for @signals;
-        close $to;
-        relay($from, $terminal);
-        close $from;
+        close $_ for $to, $lines;
+        relay($from, $terminal, $command);
+        close $_ for $from, $command;
         waitpid $child, 0;
         my ($status, $signal) = ($? >> 8, $? & 127);
         $SIG{$_} = "DEFAULT" for @signals;
@@ -119,6 +172,7 @@ session_filter='
         filter(*STDOUT, *STDOUT, *STDERR); # one pipe keeps their order
     } else {
         filter(*STDOUT, *STDOUT) if $output;
+        $help = "";
         filter(*STDERR, *STDERR) if $errors;
     }
     exec { $ARGV[0] } @ARGV;

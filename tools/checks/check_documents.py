@@ -7,8 +7,8 @@
   heading of its section, and no crate uses one on its own row or a higher one.
 - The version in CHANGELOG.md, the manual pages, the citation, units-why, the header, the Python package and each file of
   the release is the same, and so is the date in the first three.
-- Each relative link in a document leads to a file.
-- The manual pages of units and qunits have each session line that begins with a colon.
+- Each relative link in a document leads to a file, and each block of Rust is in the source of a crate.
+- The manual pages of units and qunits and the help of sessions have each session line that begins with a colon.
 - No document exceeds its limit in LIMITS, and all but tables stay within SUM_LIMIT.
 
 Each fault is printed; the last line is `N passed, M failed`.
@@ -25,7 +25,7 @@ ROOT = Path(__file__).resolve().parents[2]
 ARCHITECTURE = ROOT / "docs/ARCHITECTURE.md"
 TEST_PROGRAMS = "test programs"
 LIMITS = {
-    "README.md": 6 * 1024,
+    "README.md": 6_000,
     "CONTRIBUTING.md": 6 * 1024,
     "docs/ARCHITECTURE.md": 9 * 1024,
     "docs/DECISIONS.md": 13 * 1024,
@@ -34,7 +34,7 @@ LIMITS = {
     "docs/TOUR.md": 6 * 1024,
     "docs/WHY.md": 6 * 1024,
 }
-SUM_LIMIT = 90 * 1024  # of the pages by hand
+SUM_LIMIT = 90_000  # of the pages by hand
 TABLES = {"INDEX.md", "SOURCES.md", "TESTED.md"}
 VERSIONS = [
     ("CITATION.cff", r"^version: (\S+)$"),
@@ -158,9 +158,19 @@ def check_links() -> list[str]:
     ]
 
 
+def check_quotations() -> list[str]:
+    source = " ".join(" ".join(file.read_text().split()) for file in ROOT.glob("crates/*/src/**/*.rt"))
+    return [
+        f"{file.relative_to(ROOT)}: no crate has {block}"
+        for file in documents()
+        for block in re.findall(r"^```rust\n(.*?)^```", file.read_text(), re.DOTALL | re.MULTILINE)
+        if " ".join(block.split()) not in source
+    ]
+
+
 def check_session_lines() -> list[str]:
     words = re.findall(r'b"(:\w+)"', (ROOT / "crates/session/src/colon_word.rt").read_text())
-    pages = [ROOT / "share/man/man1" / name for name in ("units.1", "qunits.1")]
+    pages = [ROOT / "share" / name for name in ("man/man1/units.1", "man/man1/qunits.1", "qunits/session_help.txt")]
     faults = [f"{page.name} lacks {word}" for page in pages for word in words if word not in page.read_text()]
     return faults if words else ["colon_word.rt has no session line"]
 
@@ -177,7 +187,7 @@ def check_sizes() -> list[str]:
 def main() -> int:
     text = ARCHITECTURE.read_text()
     results = [check_diagram(text), check_list(text), check_versions(), check_links(), check_session_lines()]
-    results.append(check_sizes())
+    results += [check_quotations(), check_sizes()]
     for faults in results:
         for fault in faults:
             print(f"check_documents: {fault}")

@@ -134,18 +134,16 @@ fi
 expect 'the schema' 0 '' 'cmp $HOME/.local/share/doc/units/units-why.schema.json $root/share/units-why.schema.json'
 expect 'the page' 0 '' 'cmp $HOME/.local/share/doc/units/units.html $root/release/units.html'
 if [ -e "$HOME/.local/lib/libunits.so.1" ]; then
-    sed -n '/^```c$/,/^```$/p' "$root/docs/C_AND_PYTHON.md" | sed '/^```/d' > example.c
-    compile='gcc -o example example.c $(pkg-config --cflags --libs libunits)'
+    part() { sed -n "/^\`\`\`$1\$/,/^\`\`\`\$/p" "$root/docs/C_AND_PYTHON.md" | sed '/^```/d'; }
+    part c > program.c && part sh > compile.sh && ln -s "$root/release" "$root/lib" .
     if command -v gcc > /dev/null && command -v pkg-config > /dev/null; then
-        expect 'a C program over the release' 0 '1143|1250' "PKG_CONFIG_PATH=\$root/release; export PKG_CONFIG_PATH
-            $compile && ./example"
+        expect 'a C program over the release' 0 '1143|1250' '. ./compile.sh && ./program'
         expect '.. over the install' 0 '1143|1250' 'PKG_CONFIG_PATH=$HOME/.local/lib/pkgconfig; export PKG_CONFIG_PATH
-            '"$compile"' && ./example'
-        expect '.. over the shared library' 0 '1143|1250' 'gcc -o example -I$HOME/.local/include example.c \
-            -L$HOME/.local/lib -l:libunits.so.1 && LD_LIBRARY_PATH=$HOME/.local/lib ./example'
-        printf '#include <stdio.h>\n#include <units.h>\nint main(void) { return puts(units_version()) < 0; }\n' > example.c
-        expect '.. of the same version' 0 "$version" "PKG_CONFIG_PATH=\$root/release; export PKG_CONFIG_PATH
-            $compile && ./example"
+            eval "$(sed 1d compile.sh)" && ./program'
+        expect '.. over the shared library' 0 '1143|1250' 'gcc -o program -I$HOME/.local/include program.c \
+            -L$HOME/.local/lib -l:libunits.so.1 && LD_LIBRARY_PATH=$HOME/.local/lib ./program'
+        printf '#include <stdio.h>\n#include <units.h>\nint main(void) { return puts(units_version()) < 0; }\n' > program.c
+        expect '.. of the same version' 0 "$version" '. ./compile.sh && ./program'
     else
         skip 'gcc or pkg-config is not installed' 'a C program over the release, and over the install (4 cases)'
     fi

@@ -3,9 +3,9 @@
 
     tools/checks/check_qunits_session.py [SEED]
 
-With rlwrap, a session has line editing, a history file of its own and completion of names. The library is the
-repository's. A stand-in for the program writes random bytes to a terminal, by a seed that is printed. If rlwrap or perl
-is not installed, the cases that need it are skipped. The last line is `N passed, M failed, K skipped`.
+With rlwrap, a session has line editing, a history file of its own and completion of names and commands. The library is
+the repository's. A stand-in for the program writes random bytes to a terminal, by a seed that is printed. If rlwrap,
+perl or less is not installed, the cases that need it are skipped. The last line is `N passed, M failed, K skipped`.
 """
 
 from __future__ import annotations
@@ -14,6 +14,7 @@ import fcntl
 import os
 import random
 import re
+import shlex
 import shutil
 import signal
 import struct
@@ -28,6 +29,7 @@ from terminal import Terminal, has_terminals
 
 ROOT = Path(__file__).resolve().parents[2]
 QUNITS = str(ROOT / "bin/qunits")
+HELP = (ROOT / "share/qunits/session_help.txt").read_text()
 UP, HOME_KEY = "\x1b[A", "\x01"
 
 
@@ -65,6 +67,10 @@ def try_editing(check: Check, room: Path) -> None:
     home = room / "home"
     state = home / ".local/state/units"
     terminal = start(check, "a session begins", environment_of(home))
+    check.exchange(terminal, "a command is completed", ":def\t", ":define")
+    check.exchange(terminal, "and taken", " mug 350 ml\n", "You have: ")
+    check.exchange(terminal, "so is a word", "searc\t", "search")
+    check.exchange(terminal, "and taken too", " furl\n", r"furlong\s[^Y]*You have: ")
     check.exchange(terminal, "a name is completed", "2 furlo\t", "2 furlong")
     check.exchange(terminal, "a line is taken", "\n", "You want: ")
     check.exchange(terminal, "a name after an operator is completed", "meter/metr\x7f\x7f\x7f\x7f\x7f", "meter")
@@ -212,7 +218,127 @@ def try_hostile_session(check: Check, room: Path, name: str, path: str) -> None:
             check.count(f"{name}: a name, {text}", is_well, terminal.output)
     names_file = home / ".local/state/units/names"
     if names_file.exists():
-        check.count(f"{name}: Tab completes no such name", names_file.read_bytes() == b"m\n", names_file.read_bytes())
+        names = names_file.read_bytes()
+        is_well = names.endswith(b"\nexit\nm\n") and names.count(b"x") == 1
+        check.count(f"{name}: Tab completes no such name", is_well, names)
+
+
+def pattern_of(*parts: str) -> str:
+    """A pattern of the texts in this order, without those line feeds that a terminal breaks."""
+    return "(?s)" + ".*".join(re.escape(part).replace("\\\n", r"\s*\n") for part in parts)
+
+
+def try_help(check: Check, room: Path, name: str, path: str) -> None:
+    """Tries :help, between questions and typed ahead. The program gets all other lines, in their order."""
+    environment = environment_of(room / f"help {name}", PATH=path)
+    terminal = start(check, f"{name}: before the help", environment)
+    check.count(f"{name}: it is announced", '":help" lists the commands' in terminal.text(), terminal.text())
+    check.exchange(terminal, f"{name}: the help", ":help\n", pattern_of(HELP, "You have: ") + r"\Z")
+    check.exchange(terminal, f"{name}: a quantity", "3 ft\n", r"You want: \Z")
+    pattern = pattern_of(HELP, "You want: ") + r"\Z"
+    check.exchange(terminal, f"{name}: the help before a unit", "\t:help  # of it\n", pattern)
+    check.exchange(terminal, f"{name}: the quantity waits", "m\n", r"\* 0\.9144\s")
+    check.exchange(terminal, f"{name}: another command", ":helpx\n", r"unknown command: :helpx\s+You have: ")
+    check.exchange(terminal, f"{name}: a word", "help\n", r"unknown unit: help\s+You have: ")
+    ahead = "5 ft\nm\n:help\n:help me\n7 ft\n:help\nm\n"
+    replies = ("* 1.524", HELP, HELP, HELP, "* 2.1336", "You have: ")
+    check.exchange(terminal, f"{name}: lines that are typed ahead", ahead, pattern_of(*replies) + r"\Z")
+    check.count(f"{name}: and nothing else", "unknown" not in terminal.text(), terminal.text())
+    terminal.type("quit\n")
+    check.count(f"{name}: the end after the help", terminal.status() == 0)
+    terminal = Terminal([QUNITS, "-q"], environment, room)
+    check.exchange(terminal, f"{name}: with -q, it is unknown", "1 ft\nm\n:help\n", "unknown command: :help")
+    terminal.type("\x04")
+    check.count(f"{name}: and ends with 0", terminal.status() == 0)
+
+
+LISTENER = """#!/bin/sh
+printf 'You have: '
+while IFS= read -r line || [ "$line" ]; do
+    echo "$line" >> lines
+    if [ "$line" = quit ]; then exit 3; fi
+    printf 'You have: '
+done
+"""
+
+
+def try_lines(check: Check, room: Path) -> None:
+    """Tries which lines the program gets, by a stand-in that writes them to a file, and what it leaves to the shell."""
+    folder = room / "lines"
+    (folder / "bin").mkdir(parents=True)
+    (folder / "share").symlink_to(ROOT / "share")
+    shutil.copy(QUNITS, folder / "bin/qunits")
+    (folder / "bin/units").write_text(LISTENER)
+    (folder / "bin/units").chmod(0o755)
+    environment = environment_of(folder / "home", PATH=path_without(room, "rlwrap"))
+    for mode, keys, got in (
+        ("icanon", "1 ft\n:help\n\n:helpful\n:hel\x04p\nhalf\x04\x04", ["1 ft", "", ":helpful", "half"]),
+        ("icanon", ":help\nquit\nleft\n", ["quit"]),
+        ("-icanon", "1 ft\n:help\n\nquit\n", ["1 ft", "", "quit"]),
+    ):
+        (folder / "lines").write_text("")
+        shell = f"stty {mode}; bin/qunits; echo status $?; stty icanon; read -r rest; echo rest $rest; cat lines"
+        terminal = Terminal(["/bin/sh", "-c", shell], environment, folder)
+        terminal.shows("You have: ")
+        terminal.type(keys)
+        is_well = terminal.shows(f"status {3 if 'quit' in keys else 0}\\s")
+        check.count(f"a program ends: {keys!r}", is_well, terminal.text())
+        if "left" not in keys:
+            terminal.type("left\n")
+        terminal.status()
+        check.count(f"the shell has the rest: {keys!r}", "rest left" in terminal.text(), terminal.text())
+        lines = (folder / "lines").read_text().splitlines()
+        check.count(f"no :help among them: {keys!r}", lines == got, lines)
+    command = ["/bin/sh", "-c", f"printf ':help\\n' | {QUNITS}"]
+    terminal = Terminal(command, environment_of(folder / "home"), folder)
+    terminal.status()
+    check.count("a pipe is passed on unchanged", "unknown command: :help\n" in terminal.text(), terminal.text())
+
+
+def try_pager(check: Check, room: Path) -> None:
+    """Tries the pager of lists: which it is, when there is none, an interrupt, and an early end."""
+    home = room / "pager"
+    environment = environment_of(home)
+    (home / "small.units").write_text("m !\nfoot 0.3 m\n")
+    (home / "large.units").write_text("m !\n" + "".join(f"name_{number} {number} m\n" for number in range(1, 20001)))
+    small, large = ([QUNITS, "--names", "-f", f"{size}.units"] for size in ("small", "large"))
+    fit, unknown = ([QUNITS, "-q", "-f", "small.units", start, "to", "?"] for start in ("m", "s"))
+    conversion = [QUNITS, "-t", "-f", "small.units", "foot", "to", "m"]
+
+    def shown(words: list[str], **more: str) -> tuple[int, str]:
+        terminal = Terminal(words, {**environment, **more}, home)
+        return terminal.status(), terminal.text()
+
+    mark = "sed s/^/paged:/"
+    for name, words, more, expected in (
+        ("the pager of the user", small, {"PAGER": mark}, (0, "paged:foot\npaged:m\n")),
+        ("of units that fit", fit, {"PAGER": mark}, (0, "paged:\tfoot\t0.3 m\npaged:\tm\t!\n")),
+        ("not of a refusal", unknown, {"PAGER": mark}, (1, "unknown unit: s\n")),
+        ("nor of a conversion", conversion, {"PAGER": mark}, (0, "0.3\n")),
+        ("nor in a pipe", ["/bin/sh", "-c", shlex.join(small) + " | cat"], {"PAGER": mark}, (0, "foot\nm\n")),
+        ("no pager", small, {"PAGER": ""}, (0, "foot\nm\n")),
+        ("a pager that is absent", small, {"PAGER": "no-such-pager -x"}, (0, "foot\nm\n")),
+        ("a terminal that cannot page", small, {"TERM": "dumb"}, (0, "foot\nm\n")),
+        ("without less", small, {"PATH": path_without(room, "less")}, (0, "foot\nm\n")),
+        ("a pager that ends early", large, {"PAGER": "head -n 1"}, (0, "m\n")),
+        ("a pager that fails", small, {"PAGER": "cat; exit 9"}, (0, "foot\nm\n")),
+    ):
+        result = shown(words, **more)
+        check.count(f"{name}, as a pager", result == expected, result)
+    if not shutil.which("less"):
+        print("check_qunits_session: less is not installed, so the cases of it are skipped")
+        check.skipped += 4
+        return
+    for pager in ({}, {"PAGER": "less"}):
+        check.count(f"a short list by less, {pager}", shown(small, **pager) == (0, "foot\nm\n"), shown(small, **pager))
+    shell = f"trap : INT; {shlex.join(large)}; echo status $?; read -r line; echo got $line"
+    terminal = Terminal(["/bin/sh", "-c", shell], environment, home)
+    check.count("a long list by less", terminal.shows(r"name_10030\s+:"), terminal.text())
+    check.exchange(terminal, "goes on after an interrupt", "\x03", "(?s).")
+    check.exchange(terminal, "goes forward", " ", "name_10031")
+    check.exchange(terminal, "and ends", "q", r"status 0\s")
+    check.exchange(terminal, "in step with the shell", "word\n", "got word")
+    check.count("and with its status", terminal.status() == 0)
 
 
 def shown_text(data: bytes) -> bytes:
@@ -239,6 +365,7 @@ class StandIn:
     It ends with a status or by a signal.
     """
 
+    ANNOUNCEMENT = b'Type a quantity, then a unit. ":help" lists the commands, and "quit" ends.\n'
     PROGRAM = """import array, fcntl, os, termios
 unread = array.array("i", [0])
 for part in open("parts"):
@@ -268,11 +395,11 @@ os._exit(end)
         (self.folder / "parts").write_text("".join(f"{stream} {data.hex()}\n" for stream, data in parts))
 
     def run(self, words: str = "", **more: str) -> tuple[int, bytes]:
-        """The status of `qunits WORDS`, and what its terminal shows."""
+        """The status of `qunits WORDS`, and what its terminal shows after the announcement of :help."""
         command = ["/bin/sh", "-c", f"exec bin/qunits {words}"]
         terminal = Terminal(command, {**self.environment, **more}, self.folder)
         status = terminal.status()
-        return status, terminal.output.replace(b"\r\n", b"\n")
+        return status, terminal.output.replace(b"\r\n", b"\n").removeprefix(self.ANNOUNCEMENT)
 
     def run_on_pipes(self, **more: str) -> tuple[int, bytes]:
         """The status of `qunits` without a terminal, and what it writes to both streams."""
@@ -373,21 +500,25 @@ def main() -> None:
             try_statuses(check, room)
             try_hostile_session(check, room, "rlwrap", os.environ["PATH"])
             try_keys(check, room, "rlwrap", os.environ["PATH"])
+            try_help(check, room, "rlwrap", os.environ["PATH"])
         else:
             print("check_qunits_session: rlwrap is not installed, so editing, history and completion are skipped")
-            check.skipped += 60
+            check.skipped += 80
         try_plain(check, room)
         try_escapes(check, room)
         try_redirection(check, room)
+        try_pager(check, room)
         if shutil.which("perl"):
             program = StandIn(room)
             try_filter(check, program, seed)
             try_streams(check, room, program)
             try_hostile_session(check, room, "no rlwrap", path_without(room, "rlwrap"))
             try_keys(check, room, "no rlwrap", path_without(room, "rlwrap"))
+            try_help(check, room, "no rlwrap", path_without(room, "rlwrap"))
+            try_lines(check, room)
         else:
             print("check_qunits_session: perl is not installed, so the escapes of sessions are skipped")
-            check.skipped += 100
+            check.skipped += 120
     print(f"{check.passed} passed, {check.failed} failed, {check.skipped} skipped")
     sys.exit(1 if check.failed else 0)
 

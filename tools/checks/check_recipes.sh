@@ -1,6 +1,5 @@
 #!/usr/bin/env bash
-# Runs the recipes of docs/COLUMNS.md and the examples of README.md, docs/TOUR.md and docs/WHY.md as transcripts (see
-# tools/checks/transcripts.py).
+# Runs the examples of README.md and of the pages in docs as transcripts (see tools/checks/transcripts.py).
 #
 #     tools/checks/check_recipes.sh
 #
@@ -105,9 +104,9 @@ usable_part() {
 }
 
 pages=()
-for page in docs/COLUMNS.md docs/TOUR.md docs/WHY.md README.md; do
-    usable_part "$root/$page" > "$folder/${page##*/}"
-    if grep -q '^  \$ ' "$folder/${page##*/}"; then pages+=("$folder/${page##*/}"); fi
+for page in "$root/README.md" "$root"/docs/*.md; do
+    if grep -q '^  \$ ' "$page"; then usable_part "$page" > "$folder/${page##*/}"; fi
+    if grep -qs '^  \$ ' "$folder/${page##*/}"; then pages+=("$folder/${page##*/}"); fi
 done
 if [ -e "$folder/skipped" ]; then skipped=$(wc -l < "$folder/skipped"); fi
 PATH=$folder/programs:$PATH "$root/tools/checks/transcripts.py" "${pages[@]}" > "$folder/log"
