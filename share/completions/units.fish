@@ -7,7 +7,7 @@ function __units_expression
     set -l words (commandline -opc)
     set -l program (command -s -- $words[1]; or echo $words[1])
     set -l word (string replace -r '^["\']' '' -- (commandline -ct))
-    set -l front (string replace -r '[^-+*/|^;~() ]*$' '' -- "$word")
+    set -l beginning (string replace -r '[^-+*/|^;~() ]*$' '' -- "$word")
     set -l options
     set -l file
     for at in (seq 2 (count $words))
@@ -29,7 +29,7 @@ function __units_expression
     set -l qunits (path dirname $program)/qunits
     # A terminal obeys control characters and direction marks.
     set -l invisible '[\x{80}-\x{9f}\x{61c}\x{200e}\x{200f}\x{202a}-\x{202e}\x{2066}-\x{2069}]'
-    printf '%s\n' $front(command $qunits --names $options 2>/dev/null | string match -rv $invisible)
+    printf '%s\n' $beginning(command $qunits --names $options 2>/dev/null | string match -rv $invisible)
 end
 
 for program in units qunits

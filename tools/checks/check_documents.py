@@ -34,7 +34,7 @@ LIMITS = {
     "docs/TOUR.md": 6 * 1024,
     "docs/WHY.md": 6 * 1024,
 }
-SUM_LIMIT = 90_000  # of the pages by hand
+SUM_LIMIT = 90 * 1024  # of the pages by hand
 TABLES = {"INDEX.md", "SOURCES.md", "TESTED.md"}
 VERSIONS = [
     ("CITATION.cff", r"^version: (\S+)$"),
