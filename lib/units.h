@@ -43,7 +43,7 @@ extern "C" {
 #define UNITS_VERSION_NUMBER 1001000
 
 /* The stack that a call may take, in bytes. */
-#define UNITS_STACK_SIZE 1572864
+#define UNITS_STACK_SIZE 1048576
 
 /* The result of a call. Values that are not listed are never returned by this version; later versions may add some. */
 enum units_status {

@@ -779,9 +779,15 @@ The command of bin/ reads the words and the definitions of qunits, unless an opt
   4 metre.units
   $ units-why --version
   units-why *.*.* (glob)
-  $ units-why
-  units-why: usage: units-why [options] EXPRESSION [UNIT], or units-why --lint [options]
-  [2]
+  $ units-why -5 mile | head -n 1
+  \tDefinition: -8500 m (esc)
+  $ for words in '' '-tf metre.units m' '-q m' '--new' '--names' '-f metre.units --built-in m'; do
+  >   timeout 20 units-why $words
+  > done 2>&1 | uniq -c | sed 's/^ *//'
+  6 units-why: usage: units-why [options] EXPRESSION [UNIT], or units-why --lint [options]
+  $ units-why --captures --lint
+  */.config/units/my.units:2:1: mile: replaced by * (glob)
+  [1]
   $ rm -r .config
 
 Refused arguments, and files that cannot be read or written.
