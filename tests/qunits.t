@@ -247,6 +247,22 @@ A file of the user's own, and command lines with `-f`.
   $ apart qunits -t 30 day to weeks
   4;2;0
   $ rm -r .config
+
+Currencies are units of their own. They do not convert before the user's file has a rate.
+
+  $ printf '%s\n' "!include $LIBRARY" "!include ${LIBRARY%/*}/currencies.units" > "$(qunits --new)"
+  $ apart qunits -t 0.30 EUR/kWh '*' 2 kW '*' 3 hour to EUR
+  1.8
+  $ apart qunits 5 EUR to USD
+  conformability error
+  \t5 EUR (esc)
+  \t1 USD (esc)
+  [1]
+  $ echo 'USD 0.92 EUR' >> .config/units/my.units
+  $ apart qunits -t 10 USD to EUR
+  9.2
+  $ apart qunits --check
+  $ rm -r .config
   $ mkdir .config && touch .config/units
   $ qunits --new 2> /dev/null
   [5]
@@ -379,7 +395,7 @@ Hints are printed on standard error, unless `-q` or `-t` is given.
   qunits: feet and inches are written in letters, as in 5 ft + 10 in
   qunits: "*" multiplies, as in 6 "*" 330 ml
   qunits: write "*" for of, as in "20% * 50 kg"
-  qunits: there are no currencies
+  qunits: to use currencies, include currencies.units in my.units
   qunits: a number has no comma: write 1.5 or 1000
   qunits: "+" adds; to split a quantity, write a list such as "ft;in" after to
   [1]

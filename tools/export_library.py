@@ -29,8 +29,9 @@ from unit_files import DeckFault, Definition, Kind, read_deck  # noqa: E402
 
 COLUMNS = (
     "name", "kind", "value", "decimal", "dimensions", "unit", "definition", "status", "uncertainty", "rounding",
-    "source", "file", "line",
+    "source", "file", "line", "ucum", "uncefact",
 )  # fmt: skip
+LIBRARY, CODES = ROOT / "share/units", ROOT / "tools/unit_codes.tsv"
 DECIMAL = Context(prec=17)
 ERRORS = {"uncertainty": re.compile(r"measured ([0-9.e-]+)"), "rounding": re.compile(r"rounded ([0-9.e-]+)")}
 
@@ -56,6 +57,19 @@ def standing_of(definition: Definition) -> dict[str, str | None]:
     standing = {name: error[1] if error else None for name, error in errors.items()}
     status = re.match(r"\w*", clauses.strip())[0]
     return standing | {"status": status or None, "source": source.strip() or None}
+
+
+def read_codes() -> dict[str, dict[str, str | None]]:
+    """The codes of UCUM and UN/CEFACT by the names of units in the library."""
+    rows = [line.split("\t") for line in CODES.read_text(encoding="utf-8").splitlines() if not line.startswith("#")]
+    codes = {name: {"ucum": ucum, "uncefact": uncefact} for name, ucum, _, uncefact in rows}
+    return {name: {key: None if code == "-" else code for key, code in row.items()} for name, row in codes.items()}
+
+
+def codes_of(definition: Definition, codes: dict[str, dict[str, str | None]]) -> dict[str, str | None]:
+    """The codes of a definition of the library itself; another file may mean something else by the name."""
+    is_own = definition.kind is Kind.UNIT and Path(definition.place.file).parent == LIBRARY
+    return codes.get(definition.name, {}) if is_own else {}
 
 
 def row_of(definition: Definition, value: Value | Fault | None, folder: Path) -> dict[str, str | int | None]:
@@ -87,7 +101,8 @@ def exported(options: argparse.Namespace) -> str:
     """The text for the options. Raises OSError, DeckFault or NoAnswers if there is none."""
     definitions = active_definitions(options.file, options.locale)
     values = values_of(Session(options.program, str(options.file), options.locale), definitions)
-    rows = [row_of(definition, values.get(definition.key), options.file.parent) for definition in definitions]
+    folder, codes = options.file.parent, read_codes()
+    rows = [row_of(line, values.get(line.key), folder) | codes_of(line, codes) for line in definitions]
     return csv_text(rows) if options.format == "csv" else json_text(rows)
 
 

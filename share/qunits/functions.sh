@@ -184,7 +184,7 @@ hint_at_unknown() {
         *\'* | *\"*) say 'feet and inches are written in letters, as in 5 ft + 10 in' && return ;;
         and) say '"+" adds; to split a quantity, write a list such as "ft;in" after to' && return ;;
         of) say 'write "*" for of, as in "20% * 50 kg"' && return ;;
-        [Dd]ollars | [Ee]uros | USD | EUR | GBP) say 'there are no currencies' && return ;;
+        [Dd]ollars | [Ee]uros | USD | EUR | GBP) say 'to use currencies, include currencies.units in my.units' && return ;;
     esac
     similar=$(similar_names "${joined:-${1%% in *}}")
     if [ ! "$similar" ]; then similar=$(names_in_other_case "${1%% in *}"); fi

@@ -198,7 +198,7 @@ def check_values(program, file, results):
     check_comparisons(session, comparisons, results)
     definitions = read_deck(file).active(session.locale, {})
     check_mutations(session, definitions, comparisons, results)
-    check_sources(read_deck(file).definitions, results)
+    check_sources(read_deck(file).definitions + read_deck(file.with_name("currencies.units")).definitions, results)
     check_export(session, definitions, results)
     check_gnu_spellings([definition for definition in definitions if definition.kind is Kind.UNIT], results)
 

@@ -18,6 +18,8 @@ TOOLS = Path(__file__).resolve().parents[1]
 EXPORT, SCHEMA = TOOLS / "export_library.py", TOOLS / "export_library.schema.json"
 TYPES = {"string": str, "integer": int, "null": type(None)}
 CLOSEST = Fraction(1, 10**16)  # of a decimal of 17 digits
+CODES = TOOLS / "unit_codes.tsv"
+TERM = re.compile(r"(?P<slash>/?)\.?(?P<text>\d+(?:\.\d+)?(?:e-?\d+)?|\[\w+\]|[A-Za-z_%']+)(?P<power>-?\d*)")
 
 
 def export(session: Session, form: str, output: int | io.IOBase = subprocess.PIPE) -> subprocess.CompletedProcess[str]:
@@ -49,6 +51,31 @@ def row_fault(row: dict, fields: dict) -> str:
     return "; ".join(faults)
 
 
+def definition_of(ucum: str, names: dict[str, str]) -> str:
+    """A definition of UCUM as an expression of the library, where names has a name for each code."""
+    terms = []
+    for term in TERM.finditer(ucum):
+        text = term["text"] if term["text"][0].isdigit() else f"{names[term['text']]}^{term['power'] or 1}"
+        terms.append(f"{'/' if term['slash'] else '*'} ({text})")
+    return "1 " + " ".join(terms)
+
+
+def check_codes(session: Session, rows: list[dict], results) -> None:
+    """Each unit has the value of its definition in UCUM, and the export its codes."""
+    table = [line.split("\t") for line in CODES.read_text(encoding="utf-8").splitlines() if not line.startswith("#")]
+    names = {ucum: name for name, ucum, _, _ in table}
+    defined = [(name, definition_of(ucum, names)) for name, _, ucum, _ in table if ucum != "-"]
+    ours, theirs = (session.values(expressions) for expressions in zip(*defined))
+    for (name, text), our, their in zip(defined, ours, theirs):
+        results.check(f"code {name}", isinstance(our, Value) and our == their, f"{our}, but in UCUM {text}: {their}")
+    exported = {row["name"]: (row["ucum"] or "-", row["uncefact"] or "-") for row in rows if row["kind"] == "unit"}
+    for name, ucum, _, uncefact in table:
+        results.check(f"code {name}: export", exported.get(name) == (ucum, uncefact), f"{exported.get(name)}")
+    for column in (0, 1, 3):
+        codes = [row[column] for row in table if row[column] != "-"]
+        results.check("code", len(codes) == len(set(codes)), f"column {column} of {CODES.name} has one twice")
+
+
 def check_export(session: Session, definitions: list[Definition], results) -> None:
     """Each definition is a row with the value that the program gives its name."""
     answer = export(session, "json")
@@ -60,6 +87,7 @@ def check_export(session: Session, definitions: list[Definition], results) -> No
         results.check(f"export {row.get('name')}", not fault, fault)
     keys = {(definition.kind.value, definition.name) for definition in definitions}
     results.check("export of each definition", sorted((row["kind"], row["name"]) for row in rows) == sorted(keys))
+    check_codes(session, rows, results)
     units = [row for row in rows if row["kind"] == "unit"]
     for row, value in zip(units, session.values(row["name"] for row in units)):
         expected = str(value.number) if isinstance(value, Value) else None
