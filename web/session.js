@@ -5,6 +5,8 @@
 const session = (() => {
     const KEY = 'units:session', PROMPT = /(?:You have|You want): $/;
     let module = null, state = null, shownTurns = 0, prompt = '', recalled = null, draft = '';
+    // The files as the session left them when the page last took those that it saved.
+    let taken = new Map();
 
     const newState = () => ({words: options.words(), changes: files.changes(), lines: []});
 
@@ -35,21 +37,21 @@ const session = (() => {
         get('line').disabled = isOver;
         get('remove-line').disabled = get('restart').disabled = state.lines.length === 0;
         get('transcript').scrollTop = get('transcript').scrollHeight;
-        return {initial: new Map(initial), after};
+        const decoder = new TextDecoder('utf-8', {ignoreBOM: true});
+        return new Map([...after].map(([name, bytes]) => [name, decoder.decode(bytes)]));
     }
 
     function showAnew() {
         get('transcript').replaceChildren();
         shownTurns = 0;
-        show();
+        taken = show();
     }
 
-    // Files that the session saved become the user's own.
-    function takeSaved({initial, after}) {
-        const decoder = new TextDecoder('utf-8', {ignoreBOM: true});
-        const texts = [...after].map(([name, bytes]) => [name, decoder.decode(bytes)]);
-        const saved = texts.filter(([name, text]) => initial.get(name) !== text && files.textOf(name) !== text);
-        if (saved.length > 0) files.change(saved);
+    // Files that the last line saved become the user's own, with what was changed in them meanwhile.
+    function takeSaved(after) {
+        const saved = [...after].filter(([name, text]) => taken.get(name) !== text);
+        if (saved.length > 0) files.change(saved.map(([name, text]) => [name, taken.get(name) ?? null, text]));
+        taken = after;
     }
 
     function enter(event) {
@@ -62,13 +64,13 @@ const session = (() => {
         get('line').value = '';
         recalled = null;
         takeSaved(show());
-        storage.write(KEY, state);
+        storage.writeOfTab(KEY, state);
     }
 
     function removeLines(count) {
         state.lines.splice(state.lines.length - count, count);
         if (state.lines.length === 0) state = newState();
-        storage.write(KEY, state);
+        storage.writeOfTab(KEY, state);
         showAnew();
         get('line').focus();
     }
@@ -85,7 +87,7 @@ const session = (() => {
 
     function start(compiled) {
         module = compiled;
-        const kept = storage.read(KEY, null);
+        const kept = storage.readOfTab(KEY, null);
         state = Array.isArray(kept?.lines) ? kept : null;
         get('entry').addEventListener('submit', enter);
         get('line').addEventListener('keydown', recall);

@@ -32,6 +32,7 @@ import cases
 import modules
 import pictures
 import random_runs
+import tabs
 from chromium import Chromium
 from firefox import Firefox
 from page import Page
@@ -295,6 +296,7 @@ def check_views(page: Page, native: Native, tally: Tally) -> None:
     print(f"{name}: ready {milliseconds} ms after the page was opened", flush=True)
     for check in (check_names, check_links, check_sessions, check_definitions):
         check(name, page, native, tally)
+    tabs.check(name, page, tally.equal)
 
 
 def library_of(page: Path) -> dict[str, str]:

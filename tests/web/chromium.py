@@ -31,10 +31,19 @@ class Chromium:
         os.close(to_write)
         self._count, self._input, self._session = 0, b"", ""
         self.events: list[dict] = []
-        target = self.call("Target.createTarget", url=EMPTY)["targetId"]
-        self._session = self.call("Target.attachToTarget", targetId=target, flatten=True)["sessionId"]
+        self.tab = self.new_tab()
+
+    def new_tab(self) -> str:
+        """Opens a tab in a process of its own and uses it."""
+        self._session = ""
+        target = self.call("Target.createTarget", url=EMPTY, newWindow=True)["targetId"]
+        self.use_tab(self.call("Target.attachToTarget", targetId=target, flatten=True)["sessionId"])
         for domain in ("Page", "Runtime", "Network"):
             self.call(f"{domain}.enable")
+        return self.tab
+
+    def use_tab(self, tab: str) -> None:
+        self.tab = self._session = tab
 
     def _message(self) -> dict:
         while b"\0" not in self._input:

@@ -32,6 +32,16 @@ class Firefox:
         self._message()
         self.call("WebDriver:NewSession", capabilities={})
         self.call("WebDriver:SetTimeouts", script=600_000)
+        self.tab = self.call("WebDriver:GetWindowHandle")["value"]
+
+    def new_tab(self) -> str:
+        """Opens a tab and uses it."""
+        self.use_tab(self.call("WebDriver:NewWindow", type="tab")["handle"])
+        return self.tab
+
+    def use_tab(self, tab: str) -> None:
+        self.tab = tab
+        self.call("WebDriver:SwitchToWindow", handle=tab)
 
     @staticmethod
     def _connect(port: int) -> socket.socket:

@@ -62,6 +62,12 @@ class Page:
         if "view=" not in link:
             self.browser.value(SETTLED)
 
+    def forget(self) -> None:
+        """Opens the page as on a first visit."""
+        self.open()
+        self.browser.value("localStorage.clear(), sessionStorage.clear()")
+        self.open()
+
     def text(self, id_: str) -> str:
         return self.browser.value(f"document.getElementById({json.dumps(id_)}).textContent")
 
@@ -122,8 +128,8 @@ class Page:
     def take_file(self, name: str) -> str | None:
         """The text of a file that the page keeps, or None. Removes it, as another tab would."""
         return self.browser.value(f"""(key => {{
-          const text = JSON.parse(localStorage.getItem(key));
-          localStorage.removeItem(key);
+          const {{id, text}} = JSON.parse(localStorage.getItem(key)) ?? {{id: '', text: null}};
+          localStorage.setItem(key, JSON.stringify({{id: `${{id}} removed`, text: null, from: [id]}}));
           dispatchEvent(new StorageEvent('storage', {{key}}));
           return text;
         }})({json.dumps(f"units:file:{name}")})""")
