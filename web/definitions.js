@@ -118,7 +118,7 @@ const definitions = (() => {
 
     function check() {
         const name = checkedFile();
-        const {status, out, err, trap} = convert.run(['-f', name, ...options.localeWords(), '--check']);
+        const {status, out, err, trap} = convert.run(['-f', name, ...options.localeWords(), '--check'], [], false);
         const rows = [...new Set((err + out + (trap ?? '')).split('\n').filter(row => row))];
         const isClean = status === 0 && rows.length === 0;
         get('check-file').textContent = `of ${name}`;

@@ -24,6 +24,13 @@ const storage = {
                 + `page; use Download to keep a file. (${fault.message})`;
         }
     },
+    // For what is only convenient: no notice if it is not kept.
+    writeIfRoom(key, value) {
+        try { localStorage.setItem(key, JSON.stringify(value)); } catch { /* see above */ }
+    },
+    remove(keys) {
+        try { keys.forEach(key => localStorage.removeItem(key)); } catch { /* then nothing was kept */ }
+    },
     keys() {
         try { return Object.keys(localStorage); } catch { return []; }
     },
