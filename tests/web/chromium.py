@@ -7,6 +7,8 @@ import json
 import os
 import subprocess
 import tempfile
+from collections.abc import Iterator
+from contextlib import contextmanager
 from pathlib import Path
 
 KEYS = {"Enter": 13, "Tab": 9, "Escape": 27, "ArrowDown": 40, "ArrowUp": 38, "ArrowLeft": 37, "ArrowRight": 39}
@@ -102,8 +104,21 @@ class Chromium:
     def picture(self, path: Path) -> None:
         path.write_bytes(base64.b64decode(self.call("Page.captureScreenshot", format="png")["data"]))
 
-    def accessibility_tree(self) -> list[dict]:
-        return self.call("Accessibility.getFullAXTree")["nodes"]
+    @contextmanager
+    def touch(self) -> Iterator[None]:
+        """Makes the pointer a finger for a while."""
+        self.call("Emulation.setTouchEmulationEnabled", enabled=True)
+        yield
+        self.call("Emulation.setTouchEmulationEnabled", enabled=False)
+
+    def unnamed_nodes(self, roles: set[str]) -> list[str]:
+        """Roles among these in the accessibility tree that a screen reader would announce without a name."""
+        found = []
+        for node in self.call("Accessibility.getFullAXTree")["nodes"]:
+            role = node.get("role", {}).get("value", "")
+            if not node.get("ignored") and role in roles and not node.get("name", {}).get("value", "").strip():
+                found.append(role)
+        return found
 
     def faults(self) -> list[dict]:
         """Uncaught exceptions, and requests that the content policy refused."""
