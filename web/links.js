@@ -48,7 +48,7 @@ const links = (() => {
         get('use-mine').hidden = !isUnlike;
     }
 
-    // Shows the answer that the link stands for. If the reader's settings give the same, they stay.
+    // Shows the answer of the link. If the reader's settings give the same, they stay.
     function take(parts) {
         const definitions = parts.get('own') ?? '', notes = [];
         const isTooLong = definitions.length > own.MOST_CARRIED;

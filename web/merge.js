@@ -11,9 +11,10 @@ const mergeTexts = (() => {
         return {start, end: base.length - same, lines: lines.slice(start, lines.length - same)};
     }
 
-    const applied = (base, {start, end, lines}, from, to) => [...base.slice(from, start), ...lines, ...base.slice(end, to)];
+    const applied = (base, {start, end, lines}, from, to) =>
+        [...base.slice(from, start), ...lines, ...base.slice(end, to)];
 
-    // Where both changed the same lines, all lines of both are kept.
+    // If both changed the same lines, all lines of both are kept.
     function union(one, other) {
         const [first, second] = one.join('\n') < other.join('\n') ? [one, other] : [other, one];
         const known = new Set(first);
@@ -24,7 +25,8 @@ const mergeTexts = (() => {
         if (one === other || other === baseText) return one;
         if (one === baseText) return other;
         const base = baseText.split('\n');
-        const [first, second] = [changeOf(base, one), changeOf(base, other)].sort((a, b) => a.start - b.start || a.end - b.end);
+        const [first, second] = [changeOf(base, one), changeOf(base, other)]
+            .sort((a, b) => a.start - b.start || a.end - b.end);
         if (first.end < second.start) {
             return [...applied(base, first, 0, second.start), ...second.lines, ...base.slice(second.end)].join('\n');
         }

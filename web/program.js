@@ -186,7 +186,7 @@ const program = (() => {
         };
     }
 
-    // A run that waits for more input where it would read the end. Only some browsers can suspend a run.
+    // A run that waits for more input instead of reading its end. Only some browsers can suspend a run.
     class Conversation {
         static get isPossible() {
             return typeof WebAssembly.Suspending === 'function' && typeof WebAssembly.promising === 'function';

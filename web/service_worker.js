@@ -4,7 +4,8 @@ const EDITION = 'EDITION', PREFIX = 'units-page-';
 const FILES = ['./', 'index.html', 'manifest.webmanifest', 'icon.svg'];
 
 addEventListener('install', event => event.waitUntil(
-    caches.open(PREFIX + EDITION).then(cache => cache.addAll(FILES.map(file => new Request(file, {cache: 'reload'}))))));
+    caches.open(PREFIX + EDITION)
+        .then(cache => cache.addAll(FILES.map(file => new Request(file, {cache: 'reload'}))))));
 
 // Other pages of the same server may have caches too.
 addEventListener('activate', event => event.waitUntil(caches.keys().then(names => Promise.all(names
@@ -12,7 +13,8 @@ addEventListener('activate', event => event.waitUntil(caches.keys().then(names =
 
 // Only files of the page: everything else is left to the browser.
 addEventListener('fetch', event => {
-    const url = new URL(event.request.url), isOwn = FILES.some(file => new URL(file, registration.scope).pathname === url.pathname);
+    const url = new URL(event.request.url);
+    const isOwn = FILES.some(file => new URL(file, registration.scope).pathname === url.pathname);
     if (event.request.method !== 'GET' || url.origin !== location.origin || !isOwn) return;
     event.respondWith(caches.open(PREFIX + EDITION).then(cache => cache.match(event.request, {ignoreSearch: true}))
         .then(kept => kept ?? fetch(event.request)));

@@ -1,7 +1,7 @@
 'use strict';
 // The Session view. A session is its arguments, the changed files at its start, and its lines: the program's output is a
-// function of these. Where the browser can suspend a run, the run waits for each line. Elsewhere the page runs all lines
-// again after each new one. A read returns one line at a time, which shows which part of the output replies to which line.
+// function of these. If the browser can suspend a run, the run waits for each line. If not, the page runs all lines again
+// after each new one. A read returns one line at a time, which shows which part of the output replies to which line.
 const session = (() => {
     const KEY = 'units:session', PROMPT = /(?:You have|You want): $/, FIRST_PROMPT = 'You have: ', HELP = ['?', ':help'];
     let module = null, state = null, conversation = null, shownTurns = 0, prompt = '', recalled = null, draft = '';

@@ -2,7 +2,8 @@
 // A line for a terminal that gives the shown answer wherever the program is installed, without the files of this page.
 const terminal = (() => {
     // The installed command reads other texts as people mean them, but those of a session as they are.
-    const PLAIN = /^-?[\d.]+ [\p{L}][\p{L}\p{N}_]*(?:[/^][\p{L}\p{N}]+)*$|^[\p{L}]{2,}$/u, UNIT = /^[\p{L}][\p{L}\p{N}_]*(?:[/^][\p{L}\p{N}]+)*$/u;
+    const PLAIN = /^-?[\d.]+ [\p{L}][\p{L}\p{N}_]*(?:[/^][\p{L}\p{N}]+)*$|^[\p{L}]{2,}$/u;
+    const UNIT = /^[\p{L}][\p{L}\p{N}_]*(?:[/^][\p{L}\p{N}]+)*$/u;
 
     const quoted = word => /^[\w@%+=:,./-]+$/.test(word) ? word : `'${word.replaceAll("'", `'\\''`)}'`;
     const command = words => words.map(quoted).join(' ');

@@ -118,9 +118,9 @@ def check_questions(name: str, page: Page, native: Native, tally: Tally, count: 
         pairs = [question for question in questions[i :: len(cases.OPTIONS)] if question[0].strip()]
         words = cases.arguments(options)
         page.print_as_program(False)
-        written = [parts for _, _, parts, _ in page.ask(pairs)]
+        written = [(parts, time) for _, _, parts, time in page.ask(pairs)]
         page.print_as_program(True)
-        for (from_, to), parts, (reply, answer, _, time) in zip(pairs, written, page.ask(pairs)):
+        for (from_, to), (parts, time), (reply, answer, _, _) in zip(pairs, written, page.ask(pairs)):
             times.append(time)
             case = f"{name}: {options} {from_!r} {to!r}"
             tally.equal(case, reply, native.streams([*words, *operands(from_, to)]))

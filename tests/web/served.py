@@ -2,6 +2,7 @@
 
 from __future__ import annotations
 
+import gzip
 import json
 import subprocess
 import tempfile
@@ -15,6 +16,7 @@ from chromium import Chromium
 from page import Page
 
 ROOT = Path(__file__).resolve().parents[2]
+MOST_BYTES = 450_000
 ANSWER = ("60 mph", "km/h")
 REPLY = "\t* 96.56064\n\t/ 0.010356187\n"
 
@@ -59,5 +61,6 @@ def check_installed(browser: Chromium, equal: Any) -> None:
 
 
 def check(page_file: Path, browser: Chromium, equal: Any) -> None:
+    equal("at most 450 kB by gzip", len(gzip.compress(page_file.read_bytes(), 9)) <= MOST_BYTES, True)
     check_support(page_file, browser, equal)
     check_installed(browser, equal)
