@@ -4,6 +4,7 @@
 #                            release/MADE_FROM. It makes everything twice and compares. web/out has the modules
 #   tools/web.sh --page TO   makes the page of the present web/ and share/units as the file TO, with the module in
 #                            release/units.html; this needs no toolchain
+#   tools/web.sh --served TO  makes that page as a folder for a server, from which a browser can install it
 #   tools/web.sh --compare   after bin/test: makes the module again and compares it with that of release/units.html.
 #                            Status 3 if this machine does not have the parts for that; the last line says which
 set -euo pipefail
@@ -21,15 +22,15 @@ give_up() {
     exit 1
 }
 
-# write_page MODULE TO
-write_page() { python3 "$root/tools/web/page.py" "$1" "$root/share/units" "$(field version)" "$2"; }
+# write_page MODULE TO [--served]
+write_page() { python3 "$root/tools/web/page.py" "$1" "$root/share/units" "$(field version)" "${@:2}"; }
 
 make_page_again() {
     [ -e "$page" ] || give_up 'there is no release/units.html: run tools/web.sh after bin/test'
     local folder
     folder=$(mktemp -d)
     python3 "$root/tools/web/module_of.py" "$page" "$folder/units32.wasm"
-    write_page "$folder/units32.wasm" "$1"
+    write_page "$folder/units32.wasm" "$@"
     rm -r "$folder"
 }
 
@@ -96,6 +97,7 @@ make() {
 case "${1-}" in
     '') make ;;
     --page) make_page_again "${2:?a file}" ;;
+    --served) make_page_again "${2:?a folder}" --served ;;
     --compare) compare ;;
     *) sed -n '2,/^set/s/^# \{0,1\}//p' "${BASH_SOURCE[0]}" | head -n -1 >&2; exit 2 ;;
 esac

@@ -2,7 +2,8 @@
 // The Definitions view: edits the files and shows what the program's --check reports of them.
 const definitions = (() => {
     const CHECK_DELAY = 150;
-    let shown = files.OWN, checkTimer = 0, isEdited = false, replaced = null;
+    // `known` is the text of the shown file that the edits since the last pause began with.
+    let shown = files.OWN, known = '', checkTimer = 0, isEdited = false, replaced = null;
 
     // ---- Files ----
 
@@ -11,30 +12,50 @@ const definitions = (() => {
             new Option(files.isOfLibrary(name) && files.isChanged(name) ? `${name} (changed)` : name, name)));
         get('file').value = shown;
         get('restore').disabled = !files.isChanged(shown);
-        get('restore').textContent = files.hasOriginal(shown) ? 'Restore' : 'Delete';
+        get('restore').textContent = files.originalOf(shown) === null ? 'Delete' : 'Restore';
+    }
+
+    // Shows the text as it is now. What the user has selected stays so, if another tab changed something else.
+    function renewText() {
+        const area = get('text'), {value, selectionStart, selectionEnd, scrollTop} = area;
+        known = files.textOf(shown);
+        if (value === known) return;
+        let same = 0;
+        while (same < value.length && value[same] === known[same]) same++;
+        const moved = at => at <= same ? at : Math.max(same, at + known.length - value.length);
+        area.value = known;
+        area.setSelectionRange(moved(selectionStart), moved(selectionEnd));
+        area.scrollTop = scrollTop;
+    }
+
+    // The files changed, here or in another tab.
+    function renew() {
+        if (isEdited) return keepEdit();
+        if (!files.names().includes(shown)) shown = files.OWN;
+        renewText();
+        listFiles();
+        if (!get('definitions').hidden) check();
     }
 
     function showFile(name) {
         keepEdit();
         shown = files.names().includes(name) ? name : files.OWN;
-        if (get('text').value !== files.textOf(shown)) get('text').value = files.textOf(shown);
-        listFiles();
-        check();
+        renew();
     }
 
     // Replaces a whole file, which can be undone.
     function replace(name, text, message) {
         keepEdit();
-        replaced = {name, text: files.isChanged(name) ? files.textOf(name) : undefined};
+        replaced = {name, before: files.textOf(name), after: text};
         get('restored-text').textContent = message;
         get('restored').hidden = false;
-        files.change([[name, text]]);
+        files.change([[name, replaced.before, text]]);
         showFile(name);
     }
 
     function undoReplace() {
         get('restored').hidden = true;
-        files.change([[replaced.name, replaced.text]]);
+        files.change([[replaced.name, replaced.after, replaced.before]]);
         showFile(replaced.name);
         get('text').focus();
     }
@@ -44,7 +65,7 @@ const definitions = (() => {
         const name = get('new-name').value.trim();
         keepEdit();
         get('naming').hidden = true;
-        if (!files.names().includes(name)) files.change([[name, '# Definitions\n']]);
+        if (!files.names().includes(name)) files.change([[name, null, '# Definitions\n']]);
         showFile(name);
         get('text').focus();
     }
@@ -56,7 +77,7 @@ const definitions = (() => {
         get('chosen-file').value = '';
         if (files.names().includes(name)) replace(name, text, `${name} now has the text of the file you opened.`);
         else {
-            files.change([[name, text]]);
+            files.change([[name, null, text]]);
             showFile(name);
         }
     }
@@ -68,19 +89,15 @@ const definitions = (() => {
     }
 
     function restore() {
-        const done = files.hasOriginal(shown) ? `${shown} is as it was at first.` : `${shown} is deleted.`;
-        replace(shown, undefined, done);
+        const original = files.originalOf(shown);
+        replace(shown, original, original === null ? `${shown} is deleted.` : `${shown} is as it was at first.`);
     }
 
     function edit() {
         get('restored').hidden = true;
         clearTimeout(checkTimer);
         isEdited = true;
-        checkTimer = setTimeout(() => {
-            keepEdit();
-            listFiles();
-            check();
-        }, CHECK_DELAY);
+        checkTimer = setTimeout(keepEdit, CHECK_DELAY);
     }
 
     // Keeps what was typed since the last pause, before anything else uses or replaces the text.
@@ -88,7 +105,7 @@ const definitions = (() => {
         clearTimeout(checkTimer);
         if (!isEdited) return;
         isEdited = false;
-        files.change([[shown, get('text').value]]);
+        files.change([[shown, known, get('text').value]]);
     }
 
     // ---- The report ----
@@ -101,7 +118,7 @@ const definitions = (() => {
 
     function check() {
         const name = checkedFile();
-        const {status, out, err, trap} = convert.run(['-f', name, ...options.localeWords(), '--check']);
+        const {status, out, err, trap} = convert.run(['-f', name, ...options.localeWords(), '--check'], [], false);
         const rows = [...new Set((err + out + (trap ?? '')).split('\n').filter(row => row))];
         const isClean = status === 0 && rows.length === 0;
         get('check-file').textContent = `of ${name}`;
@@ -123,8 +140,8 @@ const definitions = (() => {
         const names = [shown, ...files.names().filter(name => name !== shown)];
         for (const name of names) {
             const lines = files.textOf(name).split('\n');
-            const i = lines.findLastIndex(line => line.split(/[\s(]/, 1)[0] === defined);
-            if (i >= 0) return {name, number: i + 1};
+            const number = lines.map(line => line.split(/[\s(]/, 1)[0]).lastIndexOf(defined) + 1;
+            if (number > 0) return {name, number};
         }
         return undefined;
     }
@@ -158,7 +175,7 @@ const definitions = (() => {
         get('download').addEventListener('click', download);
         get('restore').addEventListener('click', restore);
         get('undo-restore').addEventListener('click', undoReplace);
-        files.listen(listFiles);
+        files.listen(renew);
     }
 
     return {start, open: () => showFile(shown)};

@@ -14,12 +14,26 @@ const names = (() => {
         return [text.slice(0, text.length - word.length), word];
     }
 
-    // Names that begin with the word come first, the shortest before the others.
-    function rank(found, word) {
+    const matches = ({name, meaning}, word) => name.toLowerCase().includes(word.toLowerCase())
+        || meaning.toLowerCase().startsWith(word.toLowerCase());
+
+    // How well an item fits: its name is the word, or begins with it, or has it. The name of a unit in words is as good.
+    function place({name, meaning}, word, isPreferred) {
         const sought = word.toLowerCase();
-        const place = ({name}) => name.startsWith(word) ? 0 : name.toLowerCase().startsWith(sought) ? 1 : 2;
-        return found.map((item, i) => [place(item), item.name.length, i, item])
-            .sort((a, b) => a[0] - b[0] || a[1] - b[1] || a[2] - b[2]).map(([, , , item]) => item);
+        if (name === word) return 0;
+        if (name.startsWith(word) || isPreferred && meaning.toLowerCase().startsWith(sought)) return isPreferred ? 1 : 2;
+        return name.toLowerCase().startsWith(sought) ? 3 : 4;
+    }
+
+    // Of those that fit as well, preferred names keep their order, and of the others the shortest comes first.
+    function rank({preferred, others}, word) {
+        const fit = preferred.filter(item => matches(item, word)), known = new Set();
+        const isNew = ({name}) => !known.has(name) && known.add(name);
+        return [...fit.map((item, i) => [place(item, word, true), 0, i, item]),
+            ...operandsOf(others).filter(({name}) => name.toLowerCase().includes(word.toLowerCase()))
+                .map((item, i) => [place(item, word, false), item.name.length, i, item])]
+            .sort((a, b) => (word === '' ? 0 : a[0] - b[0]) || a[1] - b[1] || a[2] - b[2])
+            .map(([, , , item]) => item).filter(isNew);
     }
 
     // A prefix is no operand by itself, and a function name opens its argument.
@@ -27,11 +41,13 @@ const names = (() => {
         .map(({name, meaning}) => ({name: name.replace(/^!unitlist /, '').replace('()', '('), meaning}));
 
     class Completion {
-        constructor(id, find, accepted) {
+        // If `isChoice`, an asked list has all names for a field that is one word.
+        constructor(id, find, accepted, isChoice) {
             this.field = get(id);
             this.list = get(`${id}-names`);
             this.find = find;
             this.accepted = accepted;
+            this.isChoice = isChoice;
             this.timer = 0;
             this.active = -1;
             this.field.addEventListener('input', () => {
@@ -40,11 +56,12 @@ const names = (() => {
             });
             this.field.addEventListener('keydown', event => this.key(event));
             this.field.addEventListener('blur', () => this.close());
+            if (isChoice) this.field.addEventListener('click', () => this.open(true));
         }
 
         option({name, meaning}, i) {
             const item = element('li', {id: `${this.list.id}-${i}`},
-                element('span', {className: 'name'}, name), element('span', {className: 'meaning'}, meaning));
+                element('bdi', {className: 'name'}, name), element('span', {className: 'meaning'}, meaning));
             item.setAttribute('role', 'option');
             item.addEventListener('pointerdown', event => {
                 event.preventDefault();
@@ -54,14 +71,15 @@ const names = (() => {
         }
 
         open(isAsked) {
-            const [before, word] = splitLastWord(this.field.value);
+            const [before, last] = splitLastWord(this.field.value);
+            const isWhole = this.isChoice && isAsked && before === '', word = isWhole ? '' : last;
             const isSought = document.activeElement === this.field && (isAsked || word.length > 1);
-            const found = isSought ? rank(operandsOf(this.find(this.field.value, word)), word).slice(0, MOST) : [];
-            if (found.length === 0 || found.length === 1 && found[0].name === word) return this.close();
+            const found = isSought ? rank(this.find(isWhole ? '' : this.field.value, word), word).slice(0, MOST) : [];
+            if (found.length === 0 || !isWhole && found.length === 1 && found[0].name === word) return this.close();
             this.list.replaceChildren(...found.map((item, i) => this.option(item, i)));
             this.values = found.map(({name}) => before + name);
             this.list.hidden = false;
-            this.list.scrollTop = 0;
+            this.list.scrollTop = this.list.scrollLeft = 0;
             this.field.setAttribute('aria-expanded', 'true');
             this.activate(-1);
         }
@@ -106,7 +124,7 @@ const names = (() => {
     }
 
     return {
-        reportedNames,
-        attach: (id, find, accepted) => new Completion(id, find, accepted),
+        reportedNames, matches,
+        attach: (id, find, accepted, isChoice = false) => new Completion(id, find, accepted, isChoice),
     };
 })();

@@ -2,8 +2,11 @@
 // The options as controls, as arguments of the program, and as parts of a link.
 const options = (() => {
     const KEY = 'units:options', BUILT_IN = '';
+    // The definitions of a link, in a file that is not kept. The user's files have names without blanks.
+    const LINK = 'the link';
     const CHECKS = ['exact', 'strict', 'round'], FIELDS = ['digits', 'locale'];
     const DEFAULTS = {exact: false, strict: false, round: false, digits: '8', locale: 'en_US', root: files.OWN};
+    let linkText = null;
 
     const isValid = id => get(id).value !== '' && get(id).checkValidity();
     const valueOf = id => CHECKS.includes(id) ? get(id).checked : get(id).value;
@@ -14,8 +17,9 @@ const options = (() => {
         if (get(id).selectedIndex === -1 || id === 'digits' && !isValid(id)) get(id).value = DEFAULTS[id];
     }
 
-    const values = () => Object.fromEntries([...CHECKS, ...FIELDS, 'root'].map(id => [id, valueOf(id)]));
+    const values = () => Object.fromEntries(Object.keys(DEFAULTS).map(id => [id, valueOf(id)]));
     const isDefault = id => valueOf(id) === DEFAULTS[id];
+    const isOfLink = () => get('root').value === LINK;
 
     const localeWords = () => isDefault('locale') ? [] : ['-l', get('locale').value];
 
@@ -40,16 +44,17 @@ const options = (() => {
 
     function listRoots() {
         const before = get('root').value || files.OWN;
-        const own = files.names().filter(name => !files.isOfLibrary(name));
+        const names = files.names().filter(name => !files.isOfLibrary(name));
         get('root').replaceChildren(
-            ...own.map(name => new Option(name, name)),
-            new Option('Library', files.ALL), new Option('Built-in', BUILT_IN));
+            ...names.map(name => new Option(name, name)), new Option('Library', files.ALL), new Option('Built-in', BUILT_IN),
+            ...(linkText === null ? [] : [new Option('From the link', LINK)]));
         setValue('root', before);
     }
 
-    function save() {
+    // Only what the user chose is kept, not what came with a link.
+    function save(id) {
         if (!isValid('digits')) get('digits').value = DEFAULTS.digits;
-        storage.write(KEY, values());
+        if (id !== 'root' || !isOfLink()) storage.write(KEY, {...storage.read(KEY, {}), [id]: valueOf(id)});
         showSummary();
     }
 
@@ -60,20 +65,33 @@ const options = (() => {
         showSummary();
     }
 
+    // A link names each option, since the reader may have chosen another. One that it does not name has its default.
+    // Returns the options whose values this page does not have.
+    function takeFrom(link, definitions) {
+        const given = [...CHECKS, ...FIELDS].filter(id => link.has(id));
+        for (const id of [...CHECKS, ...FIELDS]) setValue(id, link.get(id) ?? DEFAULTS[id]);
+        linkText = `!include ${files.ALL}\n${definitions}\n`;
+        listRoots();
+        get('root').value = link.get('definitions') === 'built-in' ? BUILT_IN : LINK;
+        showSummary();
+        return given.filter(id => String(valueOf(id)) !== link.get(id));
+    }
+
     return {
-        load, save, localeWords, definitionWords,
+        load, takeFrom, values, localeWords, definitionWords, outputWords, isOfLink,
         words: () => [...definitionWords(), ...outputWords()],
+        isBuiltIn: () => get('root').value === BUILT_IN,
+        // The files in force that are not those of the library.
+        changes: () => isOfLink() ? [[LINK, linkText]] : files.changes(),
+        contents: () => isOfLink() ? files.contentsWith([[LINK, linkText]]) : files.contents(),
         listen(changed) {
             files.listen(listRoots);
-            for (const id of Object.keys(DEFAULTS)) get(id).addEventListener('change', () => { save(); changed(); });
+            for (const id of Object.keys(DEFAULTS)) get(id).addEventListener('change', () => { save(id); changed(); });
         },
-        // A link carries the options that differ from their defaults. A file is no part of it: others do not have it.
         addTo(link) {
-            for (const id of [...CHECKS, ...FIELDS]) if (!isDefault(id)) link.set(id, valueOf(id));
-        },
-        takeFrom(link) {
-            for (const id of [...CHECKS, ...FIELDS]) if (link.has(id)) setValue(id, link.get(id));
-            showSummary();
+            for (const id of CHECKS) if (valueOf(id)) link.set(id, 'true');
+            for (const id of FIELDS) link.set(id, valueOf(id));
+            if (get('root').value === BUILT_IN) link.set('definitions', 'built-in');
         },
     };
 })();

@@ -1,5 +1,5 @@
 'use strict';
-// The page: its data, its views, and links to a conversion.
+// The page: its data and its views.
 (() => {
     const VIEWS = ['convert', 'session', 'definitions'];
     const OPEN = {convert: convert.show, session: session.open, definitions: definitions.open};
@@ -17,7 +17,11 @@
         }
         OPEN[view]();
         if (hasFocus) get(FIRST_FIELD[view]).focus({preventScroll: true});
-        writeLink();
+    }
+
+    function chooseView(view, hasFocus) {
+        showView(view, hasFocus);
+        links.write(true);
     }
 
     function moveInTabs(event) {
@@ -27,32 +31,8 @@
         }[event.key];
         if (next === undefined) return;
         event.preventDefault();
-        showView(VIEWS[next], false);
+        chooseView(VIEWS[next], false);
         get(`tab-${VIEWS[next]}`).focus();
-    }
-
-    // ---- Links: the part of the address after # has FROM, TO, the options that are set, and the view ----
-
-    function link() {
-        const parts = new URLSearchParams(), [from, to] = convert.sides();
-        if (from) parts.set('from', from);
-        if (to) parts.set('to', to);
-        options.addTo(parts);
-        if (shownView() !== 'convert') parts.set('view', shownView());
-        return `#${parts}`;
-    }
-
-    function writeLink() {
-        // Browsers refuse too many changes in a short time; the next one catches up.
-        try { history.replaceState(null, '', link()); } catch { /* see above */ }
-    }
-
-    function followLink() {
-        const parts = new URLSearchParams(location.hash.slice(1));
-        get('from').value = parts.get('from') ?? '';
-        get('to').value = parts.get('to') ?? '';
-        options.takeFrom(parts);
-        showView(VIEWS.includes(parts.get('view')) ? parts.get('view') : 'convert', false);
     }
 
     // ---- Copying ----
@@ -80,8 +60,24 @@
 
     function showFault(fault) {
         get('failure').hidden = false;
-        get('failure').textContent = `This browser cannot run the program: ${fault.message}. `
-            + 'The page needs Chrome 85, Firefox 113, Safari 16.4 or a later version.';
+        get('failure').textContent = `This browser cannot run the program: ${fault.message}`;
+    }
+
+    function startViews(module) {
+        options.load();
+        convert.start(module, links.write);
+        session.start(module);
+        definitions.start();
+        asked.start();
+        options.listen(convert.show);
+        for (const view of VIEWS) {
+            get(`tab-${view}`).addEventListener('click', () => chooseView(view, true));
+            get(`tab-${view}`).addEventListener('keydown', moveInTabs);
+        }
+        copyBy('copy-answer', convert.copied);
+        copyBy('copy-link', links.href);
+        copyBy('copy-command', () => get('command').textContent);
+        copyBy('copy-session', () => get('transcript').textContent);
     }
 
     async function start() {
@@ -89,25 +85,14 @@
         const data = JSON.parse(get('data').textContent);
         try { module = await compile(data.module); } catch (fault) { return showFault(fault); }
         files.load(data.library);
-        options.load();
-        convert.start(module, writeLink);
-        session.start(module);
-        definitions.start();
-        options.listen(convert.show);
-        for (const view of VIEWS) {
-            get(`tab-${view}`).addEventListener('click', () => showView(view, true));
-            get(`tab-${view}`).addEventListener('keydown', moveInTabs);
-        }
-        copyBy('copy-answer', () => get('answer').innerText);
-        copyBy('copy-link', () => new URL(link(), location.href).href);
-        copyBy('copy-command', () => get('command').textContent);
-        copyBy('copy-session', () => get('transcript').textContent);
-        addEventListener('hashchange', followLink);
-        followLink();
+        startViews(module);
+        links.start(data.edition, {
+            shown: shownView, show: view => showView(VIEWS.includes(view) ? view : 'convert', false),
+        });
         get('version').textContent = data.version;
         if (shownView() === 'convert') get('from').focus({preventScroll: true});
         document.documentElement.dataset.started = Math.round(performance.now());
     }
 
-    start();
+    if (isSupported) start();
 })();

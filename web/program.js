@@ -74,6 +74,8 @@ const program = (() => {
             this.turns = [{out: [], err: []}];
         }
 
+        isEmpty() { return this.rest.length === 0 && this.next === this.pieces.length; }
+
         read(room) {
             if (this.rest.length === 0 && this.next < this.pieces.length) {
                 this.rest = this.pieces[this.next++];
@@ -148,32 +150,87 @@ const program = (() => {
         };
     }
 
+    // One run: its files, its streams, and its instance of the module, whose imports `imported` may replace.
+    function prepare(module, {words = [], variables = [], files = [], input = []}, imported = host => host) {
+        const store = new Files(files), streams = new Streams(input.map(bytesOf));
+        const texts = {words: ['units', ...words].map(bytesOf), variables: variables.map(bytesOf)};
+        let exports = null;
+        const host = hostOf(() => new Uint8Array(exports.memory.buffer), texts, store, streams);
+        exports = new WebAssembly.Instance(module, {host: imported(host, streams)}).exports;
+        return {store, streams, exports};
+    }
+
+    const reasonOf = fault => `The browser ended this run before the program did (${fault.message}).`;
+    const bytesOfTurns = turns => turns.map(({out, err}) => ({out: concatenate(out), err: concatenate(err)}));
+    const textsOfTurns = turns => turns.map(({out, err}) => ({out: decoder.decode(out), err: decoder.decode(err)}));
+    const contentsOf = store => new Map([...store.byName].map(([name, file]) => [name, contentOf(file)]));
+
     // Runs the module once. `input` is a list of pieces, and `files` a list of [name, content].
     // Returns the status, both streams as text, both by turns, the files after the run, and `trap`: why the browser
     // ended the run before the program did, or null. The result refers to no memory of the run.
-    function run(module, {words = [], variables = [], files = [], input = []}) {
-        const store = new Files(files), streams = new Streams(input.map(bytesOf));
-        const texts = {words: ['units', ...words].map(bytesOf), variables: variables.map(bytesOf)};
-        let exports = null, status = null, trap = null;
-        const host = hostOf(() => new Uint8Array(exports.memory.buffer), texts, store, streams);
+    function run(module, given) {
+        let status = null, trap = null, prepared = null;
         try {
-            exports = new WebAssembly.Instance(module, {host}).exports;
-            status = exports.run();
+            prepared = prepare(module, given);
+            status = prepared.exports.run();
         } catch (fault) {
-            trap = `The browser ended this run before the program did (${fault.message}).`;
+            trap = reasonOf(fault);
         }
-        exports = null;
-        const turns = streams.turns.map(({out, err}) => ({out: concatenate(out), err: concatenate(err)}));
+        const turns = bytesOfTurns(prepared?.streams.turns ?? []);
         return {
             status, trap,
             out: decoder.decode(concatenate(turns.map(turn => turn.out))),
             err: decoder.decode(concatenate(turns.map(turn => turn.err))),
-            turns: turns.map(({out, err}) => ({out: decoder.decode(out), err: decoder.decode(err)})),
-            files: new Map([...store.byName].map(([name, file]) => [name, contentOf(file)])),
+            turns: textsOfTurns(turns),
+            files: prepared ? contentsOf(prepared.store) : new Map(),
         };
     }
 
-    return {run};
+    // A run that waits for more input instead of reading its end. Only some browsers can suspend a run.
+    class Conversation {
+        static get isPossible() {
+            return typeof WebAssembly.Suspending === 'function' && typeof WebAssembly.promising === 'function';
+        }
+
+        constructor(module, given) {
+            this.shown = 0;
+            this.trap = null;
+            this.arrive = this.resume = () => {};
+            this.prepared = prepare(module, given, (host, streams) => ({
+                ...host, read: new WebAssembly.Suspending((fd, at, room) => this.read(host, streams, fd, at, room)),
+            }));
+        }
+
+        read(host, streams, fd, at, room) {
+            if (fd !== 0 || !streams.isEmpty()) return host.read(fd, at, room);
+            this.arrive();
+            return new Promise(done => { this.resume = () => done(host.read(fd, at, room)); });
+        }
+
+        // The turns and the files when the run waits again, or has ended, after `proceed`.
+        async after(proceed) {
+            const arrived = new Promise(done => { this.arrive = done; });
+            proceed();
+            await Promise.race([arrived, this.ended]);
+            const {streams, store} = this.prepared, turns = textsOfTurns(bytesOfTurns(streams.turns.slice(this.shown)));
+            this.shown = streams.turns.length;
+            return {turns, trap: this.trap, files: contentsOf(store)};
+        }
+
+        start() {
+            return this.after(() => {
+                this.ended = WebAssembly.promising(this.prepared.exports.run)()
+                    .catch(fault => { this.trap = reasonOf(fault); });
+            });
+        }
+
+        enter(piece) {
+            this.prepared.streams.pieces.push(bytesOf(piece));
+            return this.after(this.resume);
+        }
+    }
+
+    return {run, Conversation};
 })();
 
 if (typeof module !== 'undefined') module.exports = program;

@@ -56,11 +56,17 @@
     return isSeen ? [] : [`${name(e)} ${outlineStyle} ${outlineWidth} ${ratio.toFixed(2)}`];
   };
 
-  // The smallest target that WCAG 2.2 AA allows is 24 by 24 pixels.
-  const smallTargets = () => all('button, input, select, summary').filter(isShown).filter(e => {
+  // The smallest target that WCAG 2.2 AA allows is 24 by 24 pixels, and for fingers AAA wants 44.
+  const targetsBelow = size => all('button, input, select, summary, [role=option]').filter(isShown).filter(e => {
     const {width, height} = (e.closest('label') ?? e).getBoundingClientRect();
-    return height < 24 || width < 24;
+    return Math.round(height) < size || Math.round(width) < size;
   }).map(name);
+  const smallTargets = () => targetsBelow(24);
+  const smallTouchTargets = () => matchMedia('(pointer: coarse)').matches ? targetsBelow(44) : ['no coarse pointer'];
+
+  // A name from right to left must not reorder the text beside it.
+  const mixedDirections = () => all('bdi, .name, .meaning, .reply, .unit, .entered')
+    .filter(e => !['isolate', 'isolate-override', 'plaintext'].includes(getComputedStyle(e).unicodeBidi)).map(name);
 
   const brokenReferences = () => all('*').flatMap(e =>
     ['for', 'aria-controls', 'aria-labelledby', 'aria-describedby', 'aria-activedescendant']
@@ -118,7 +124,7 @@
   };
 
   globalThis.accessibility = {
-    lowContrast, faintFields, faintFocus, smallTargets, brokenReferences, duplicateIds, wrongRoles, structure,
+    lowContrast, faintFields, faintFocus, smallTargets, smallTouchTargets, mixedDirections, brokenReferences, duplicateIds, wrongRoles, structure,
     excessWidth, stops: () => stops().map(name), stopIndex, focusFirst, stopsAgainstReading,
   };
 })()

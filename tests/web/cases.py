@@ -25,7 +25,7 @@ SPECIAL = [
 
 SESSIONS = [
     ["10 meters", "feet", "m", "", "foo", "search yard", ":define smoot 67 in", "smoot", "m", ":undo", "smoot", ":redo",
-     "smoot", "?"],
+     "smoot", "m", "?"],
     [":watch 1 ft ; m", ":define ft 1|3 yd", ":define ft 2 m", ":undo", ":undo", ":redo", ":unwatch", ":stats",
      ":nonsense", ":drop ft", "1 ft", "m"],
     [":locale en_GB", "1 gallon", "l", ":locale en_US", "1 gallon", "l", ":set UNITS_ENGLISH GB", "1 gallon", "l",

@@ -28,10 +28,16 @@ from pathlib import Path
 from typing import Any
 
 import accessibility
+import answers
 import cases
+import links
 import modules
 import pictures
+import picker
 import random_runs
+import served
+import sessions
+import tabs
 from chromium import Chromium
 from firefox import Firefox
 from page import Page
@@ -111,13 +117,19 @@ def check_questions(name: str, page: Page, native: Native, tally: Tally, count: 
         page.set_options(options)
         pairs = [question for question in questions[i :: len(cases.OPTIONS)] if question[0].strip()]
         words = cases.arguments(options)
-        for (from_, to), (reply, answer, time) in zip(pairs, page.ask(pairs)):
+        page.print_as_program(False)
+        written = [(parts, time) for _, _, parts, time in page.ask(pairs)]
+        page.print_as_program(True)
+        for (from_, to), (parts, time), (reply, answer, _, _) in zip(pairs, written, page.ask(pairs)):
             times.append(time)
             case = f"{name}: {options} {from_!r} {to!r}"
             tally.equal(case, reply, native.streams([*words, *operands(from_, to)]))
             verbose = native.run([*words, "-v", *operands(from_, to)])
             reply_text = without_blanks(verbose.stdout or verbose.stderr)
-            tally.equal(f"{case}: the answer contains the verbose reply", reply_text in without_blanks(answer), True)
+            tally.equal(f"{case}: the printed answer is the verbose reply", without_blanks(answer), reply_text)
+            if parts:
+                tally.equal(f"{case}: the number as written", answers.is_number_of(parts[0], verbose.stdout), True)
+    page.print_as_program(False)
     page.set_options({})
     times.sort()
     print(f"{name}: {len(times)} questions, {times[len(times) // 2]:.0f} ms from typing to the answer in the middle, "
@@ -165,7 +177,7 @@ def check_definitions(name: str, page: Page, native: Native, tally: Tally) -> No
     tally.equal(f"{name}: the definition of a row of the check", selection, "loopb 3 loopa")
     page.open("#from=smoot&to=m")
     pairs = [("3 loopa", "m"), ("smoot", "m"), ("broken", "")]
-    for (from_, to), (reply, _, _) in zip(pairs, page.ask(pairs)):
+    for (from_, to), (reply, _, _, _) in zip(pairs, page.ask(pairs)):
         expected = native.streams(["-f", cases.OWN_FILE, *operands(from_, to)])
         tally.equal(f"{name}: {from_} after a reload", reply, expected)
     page.click("tab-definitions")
@@ -188,32 +200,20 @@ def check_names(name: str, page: Page, native: Native, tally: Tally) -> None:
     page.wait_for("!document.getElementById('from-names').hidden")
     lines = native.run(["-q", "-f", cases.OWN_FILE], "search yar\n").stdout.split("\n")
     expected = {line.split("\t")[1] for line in lines if line.startswith("\t")}
-    tally.equal(f"{name}: the names with yar", set(page.options_of("from-names")), expected)
+    tally.equal(f"{name}: the names with yar", expected < set(page.options_of("from-names")), True)
     page.browser.press("ArrowDown")
     tally.equal(f"{name}: the active name", bool(page.browser.value(
         "document.getElementById(document.activeElement.getAttribute('aria-activedescendant')) !== null")), True)
     page.browser.press("Enter")
-    tally.equal(f"{name}: the chosen name", page.property("from", "value"), "3 yard")
+    tally.equal(f"{name}: the chosen name", page.property("from", "value"), "3 yd")
     page.focus("to")
     page.browser.press("ArrowDown")
     page.wait_for("!document.getElementById('to-names').hidden")
     options = page.options_of("to-names")
-    conformable_lines = native.run(["-f", cases.OWN_FILE, "--", "3 yard", "?"]).stdout.split("\n")
-    units = {line.split("\t")[1] for line in conformable_lines if line.startswith("\t")}
-    tally.equal(f"{name}: the units for 3 yard", bool(options) and set(options) <= units, True)
+    wrong = [unit for unit in options if native.run(["-f", cases.OWN_FILE, "-s", "--", "3 yd", unit]).returncode != 0]
+    tally.equal(f"{name}: the units for 3 yd", (len(options) > 30, wrong), (True, []))
     page.browser.press("Escape")
     tally.equal(f"{name}: escape closes the list", page.property("to-names", "hidden"), True)
-
-
-def check_links(name: str, page: Page, native: Native, tally: Tally) -> None:
-    page.open("#from=1+mile&to=km&digits=20&strict=true")
-    page.ask([("1 mile", "km")])
-    expected = native.streams(["-f", cases.OWN_FILE, "-d", "20", "-s", "--", "1 mile", "km"])
-    tally.equal(f"{name}: a link with options", page.text("reply"), expected)
-    page.ask([("2 furlong", "ft + m")])
-    link = page.browser.value("location.hash")
-    tally.equal(f"{name}: the link", link, "#from=2+furlong&to=ft+%2B+m&strict=true&digits=20")
-    page.set_options({})
 
 
 def check_server(page_file: Path, browser: Chromium, tally: Tally) -> None:
@@ -259,6 +259,7 @@ def check_chromium(arguments: argparse.Namespace, native: Native, tally: Tally) 
         check_views(page, native, tally)
         accessibility.check(page, tally.equal)
         check_server(arguments.page.resolve(), browser, tally)
+        served.check(arguments.page.resolve(), browser, tally.equal)
         check_storage(page, tally)
         modules.check_memory(page, native, tally)
         if arguments.module64:
@@ -279,6 +280,7 @@ def check_firefox(arguments: argparse.Namespace, native: Native, tally: Tally) -
         check_views(page, native, tally)
         page.open()
         check_questions(browser.name, page, native, tally, arguments.questions // FIREFOX_SHARE)
+        accessibility.check(page, tally.equal)
     finally:
         browser.close()
 
@@ -293,8 +295,9 @@ def check_views(page: Page, native: Native, tally: Tally) -> None:
     tally.equal(f"{name}: the page starts", page.property("failure", "hidden"), True)
     milliseconds = page.browser.value("document.documentElement.dataset.started")
     print(f"{name}: ready {milliseconds} ms after the page was opened", flush=True)
-    for check in (check_names, check_links, check_sessions, check_definitions):
+    for check in (check_names, answers.check, picker.check, links.check, check_sessions, sessions.check, check_definitions):
         check(name, page, native, tally)
+    tabs.check(name, page, tally.equal)
 
 
 def library_of(page: Path) -> dict[str, str]:

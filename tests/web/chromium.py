@@ -7,6 +7,8 @@ import json
 import os
 import subprocess
 import tempfile
+from collections.abc import Iterator
+from contextlib import contextmanager
 from pathlib import Path
 
 KEYS = {"Enter": 13, "Tab": 9, "Escape": 27, "ArrowDown": 40, "ArrowUp": 38, "ArrowLeft": 37, "ArrowRight": 39}
@@ -31,10 +33,19 @@ class Chromium:
         os.close(to_write)
         self._count, self._input, self._session = 0, b"", ""
         self.events: list[dict] = []
-        target = self.call("Target.createTarget", url=EMPTY)["targetId"]
-        self._session = self.call("Target.attachToTarget", targetId=target, flatten=True)["sessionId"]
+        self.tab = self.new_tab()
+
+    def new_tab(self) -> str:
+        """Opens a tab in a process of its own and uses it."""
+        self._session = ""
+        target = self.call("Target.createTarget", url=EMPTY, newWindow=True)["targetId"]
+        self.use_tab(self.call("Target.attachToTarget", targetId=target, flatten=True)["sessionId"])
         for domain in ("Page", "Runtime", "Network"):
             self.call(f"{domain}.enable")
+        return self.tab
+
+    def use_tab(self, tab: str) -> None:
+        self.tab = self._session = tab
 
     def _message(self) -> dict:
         while b"\0" not in self._input:
@@ -93,8 +104,21 @@ class Chromium:
     def picture(self, path: Path) -> None:
         path.write_bytes(base64.b64decode(self.call("Page.captureScreenshot", format="png")["data"]))
 
-    def accessibility_tree(self) -> list[dict]:
-        return self.call("Accessibility.getFullAXTree")["nodes"]
+    @contextmanager
+    def touch(self) -> Iterator[None]:
+        """Makes the pointer a finger for a while."""
+        self.call("Emulation.setTouchEmulationEnabled", enabled=True)
+        yield
+        self.call("Emulation.setTouchEmulationEnabled", enabled=False)
+
+    def unnamed_nodes(self, roles: set[str]) -> list[str]:
+        """Roles among these in the accessibility tree that a screen reader would announce without a name."""
+        found = []
+        for node in self.call("Accessibility.getFullAXTree")["nodes"]:
+            role = node.get("role", {}).get("value", "")
+            if not node.get("ignored") and role in roles and not node.get("name", {}).get("value", "").strip():
+                found.append(role)
+        return found
 
     def faults(self) -> list[dict]:
         """Uncaught exceptions, and requests that the content policy refused."""

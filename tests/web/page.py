@@ -3,10 +3,14 @@
 from __future__ import annotations
 
 import json
+import subprocess
+from pathlib import Path
 from typing import Any
 
+QUANTITIES = Path(__file__).resolve().parents[2] / "web/quantities.js"
+
 # Enters each question as if it were typed, waits until the page is settled, and returns [the reply as in a terminal,
-# the text of the answer, the time to the answer in milliseconds].
+# the text of the answer, the number and the unit in it or null, the time to the answer in milliseconds].
 ASK = """(async (questions) => {
   const get = id => document.getElementById(id);
   get('printed').open = true;
@@ -22,7 +26,8 @@ ASK = """(async (questions) => {
       if (performance.now() - begin > 60_000) throw new Error(`no answer to ${from} in ${to} within a minute`);
       await new Promise(done => setTimeout(done, 2));
     }
-    answers.push([get('reply').textContent, get('answer').textContent, time]);
+    const parts = [...get('answer').querySelectorAll('.large > bdi')].map(part => part.textContent);
+    answers.push([get('reply').textContent, get('answer').textContent, parts.length > 0 ? parts : null, time]);
   }
   return answers;
 })"""
@@ -62,6 +67,12 @@ class Page:
         if "view=" not in link:
             self.browser.value(SETTLED)
 
+    def forget(self) -> None:
+        """Opens the page as on a first visit."""
+        self.open()
+        self.browser.value("localStorage.clear(), sessionStorage.clear()")
+        self.open()
+
     def text(self, id_: str) -> str:
         return self.browser.value(f"document.getElementById({json.dumps(id_)}).textContent")
 
@@ -84,8 +95,17 @@ class Page:
           return Boolean({expression});
         }})()""")
 
-    def ask(self, questions: list[tuple[str, str]]) -> list[tuple[str, str, float]]:
+    def ask(self, questions: list[tuple[str, str]]) -> list[tuple[str, str, list[str] | None, float]]:
         return self.browser.value(f"{ASK}({json.dumps(questions)})")
+
+    def print_as_program(self, is_wanted: bool) -> None:
+        """Chooses whether the answer is the program's text."""
+        if (self.browser.value("document.getElementById('as-printed').ariaPressed") == "true") != is_wanted:
+            self.click("as-printed")
+
+    def rest(self) -> None:
+        """Waits as long as the page does until it takes a question as whole."""
+        self.wait(900)
 
     def set_options(self, options: dict[str, str | bool]) -> None:
         self.browser.value(f"{SET_OPTIONS}({json.dumps(options)})")
@@ -122,11 +142,18 @@ class Page:
     def take_file(self, name: str) -> str | None:
         """The text of a file that the page keeps, or None. Removes it, as another tab would."""
         return self.browser.value(f"""(key => {{
-          const text = JSON.parse(localStorage.getItem(key));
-          localStorage.removeItem(key);
+          const {{id, text}} = JSON.parse(localStorage.getItem(key)) ?? {{id: '', text: null}};
+          localStorage.setItem(key, JSON.stringify({{id: `${{id}} removed`, text: null, from: [id]}}));
           dispatchEvent(new StorageEvent('storage', {{key}}));
           return text;
         }})({json.dumps(f"units:file:{name}")})""")
+
+    def lists(self) -> list[tuple[str, list[str]]]:
+        """The units that the page prefers for each quantity, as Node reads them."""
+        script = "const q = require(process.argv[1]); " \
+            "console.log(JSON.stringify(q.keys.map(key => [key, q.listOf(key).map(unit => unit.name)])))"
+        process = subprocess.run(["node", "-e", script, QUANTITIES], capture_output=True, encoding="utf-8", check=True)
+        return json.loads(process.stdout)
 
     def report(self) -> list[str]:
         return self.browser.value("[...document.querySelectorAll('#check li')].map(item => item.textContent)")
