@@ -14,14 +14,18 @@ const own = (() => {
     const wordsOf = text => text.match(/[^\s\d.;,()[\]*/^|+-]+/g) ?? [];
 
     // The definitions of the words of a text and of each other, by their names alone: a word may have a prefix and an ending.
+    // It stops when they are too long to be carried.
     function namedIn(lines, text) {
-        const found = new Set(), words = wordsOf(text);
+        const rest = new Map(lines.map(line => [line, wordsOf(line)])), found = new Set(), words = wordsOf(text);
+        let length = 0;
         for (const word of words) {
-            for (const line of lines.filter(line => !found.has(line))) {
-                const [name, ...body] = wordsOf(line);
+            for (const [line, [name, ...body]] of rest) {
                 if (!name || !word.includes(name.replace(/\By$/, ''))) continue;
+                rest.delete(line);
                 found.add(line);
                 words.push(...body);
+                length += line.length;
+                if (length > MOST_CARRIED) return lines;
             }
         }
         return lines.filter(line => found.has(line));
@@ -31,9 +35,12 @@ const own = (() => {
     // do, or if they are too long. `replyOver(text)` is the reply over a file with this text.
     function neededFor(changes, base, question, reply, replyOver) {
         const lines = changes.flatMap(linesOf);
-        const sets = lines.length === 0 ? [[]] : [[], namedIn(lines, question), lines];
-        const texts = sets.map(set => set.join('\n')).filter(text => text.length <= MOST_CARRIED);
-        return texts.find(text => replyOver(`!include ${base}\n${text}\n`) === reply);
+        const choices = lines.length === 0 ? [() => []] : [() => [], () => namedIn(lines, question), () => lines];
+        for (const choose of choices) {
+            const text = choose().join('\n');
+            if (text.length <= MOST_CARRIED && replyOver(`!include ${base}\n${text}\n`) === reply) return text;
+        }
+        return undefined;
     }
 
     return {neededFor, MOST_CARRIED};
