@@ -44,6 +44,7 @@ from .faults import (
     OutsideTable,
     Overflow,
     RefusedFunction,
+    ScaleFault,
     SyntaxFault,
     UnitsError,
     UnknownUnit,
@@ -51,8 +52,9 @@ from .faults import (
     WrongArgument,
     WrongResult,
 )
+from .measured import Measured
 from .quantity import Quantity
-from .units import Units
+from .units import Units, default_units, set_default_units
 
 __version__ = "1.1.0"
 
@@ -75,6 +77,7 @@ __all__ = [
     "FileTooLong",
     "FunctionFault",
     "ListUnitNotPositive",
+    "Measured",
     "NestedTooDeep",
     "NoExactRoot",
     "NoInverse",
@@ -92,6 +95,7 @@ __all__ = [
     "Overflow",
     "Quantity",
     "RefusedFunction",
+    "ScaleFault",
     "SyntaxFault",
     "Units",
     "UnitsError",
@@ -99,4 +103,6 @@ __all__ = [
     "UnlikeSum",
     "WrongArgument",
     "WrongResult",
+    "default_units",
+    "set_default_units",
 ]

@@ -54,6 +54,9 @@ class BackEnd(Protocol):
     def search(self, text: bytes) -> List[str]:
         """Return the lines of a search."""
 
+    def conforming(self, expression: bytes) -> List[str]:
+        """Return the names of the units that conform to an expression."""
+
     def close(self) -> None:
         """End the session or free the table. A second call does nothing."""
 

@@ -106,6 +106,10 @@ class CallsTooDeep(FunctionFault):
     """Functions call each other too deeply."""
 
 
+class ScaleFault(FunctionFault):
+    """A number on a scale such as ``tempF`` takes part in arithmetic."""
+
+
 class DefinitionFault(UnitsError):
     """Definitions are not loaded, or an edit is refused. Base class."""
 

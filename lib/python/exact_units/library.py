@@ -11,8 +11,9 @@ from typing import Any, Callable, Dict, List, Optional
 
 from .backend import Definitions, LockedBackEnd
 from .definition_files import DefinitionFiles
-from .faults import BackEndError, OutOfMemory, fault_of_status
-from .quantity import Quantity, read_dimension
+from .faults import BackEndError, OutOfMemory, UnitsError, fault_of_status
+from .quantity import Quantity
+from .unit import read_dimension
 
 _DONE, _NO_MEMORY, _NO_ROOM, _CLOSED, _DECK_FULL = 0, 1, 2, 3, 19
 _USUAL_ROOM = 4096
@@ -190,6 +191,22 @@ class LibraryBackEnd(LockedBackEnd):
     def search(self, text: bytes) -> List[str]:
         """See `BackEnd.search`."""
         return self._text(self._calls.units_search, text, len(text)).split("\n")
+
+    def conforming(self, expression: bytes) -> List[str]:
+        """See `BackEnd.conforming`."""
+        dimension = self.value(expression).dimension
+        names = []
+        for row in self.search(b""):
+            name = row.partition("\t")[2].partition("\t")[0]
+            if name and not name.endswith(("-", ")", "]")) and not name.startswith("!"):
+                try:
+                    if self.value(name.encode("utf-8", "surrogateescape")).dimension == dimension:
+                        names.append(name)
+                except BackEndError:
+                    raise
+                except UnitsError:
+                    continue
+        return names
 
     def close(self) -> None:
         """See `BackEnd.close`."""

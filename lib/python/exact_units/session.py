@@ -9,8 +9,9 @@ from typing import Any, Callable, Iterator, List, NamedTuple, Optional, Tuple, T
 from .backend import Definitions, LockedBackEnd
 from .definition_files import DefinitionFiles
 from .faults import BackEndError, BadKey, fault_of_text
-from .quantity import Quantity, read_dimension, read_fraction
+from .quantity import Quantity
 from .session_process import SessionProcess
+from .unit import read_dimension, read_fraction
 
 _Answer = TypeVar("_Answer")
 
@@ -187,6 +188,21 @@ class SessionBackEnd(LockedBackEnd):
     def search(self, text: bytes) -> List[str]:
         """See `BackEnd.search`."""
         return self._exchange(lambda session: session.ask(b"search " + text)[0]).split("\n")
+
+    def conforming(self, expression: bytes) -> List[str]:
+        """See `BackEnd.conforming`."""
+
+        def ask(session: SessionProcess) -> Tuple[str, bool]:
+            reply, wants_target = session.ask(expression)
+            if wants_target:
+                reply = session.ask(b"?")[0]
+                session.ask(b"")
+            return reply, wants_target
+
+        reply, is_asked = self._exchange(ask)
+        if not is_asked:
+            raise fault_of_text(reply.rstrip("\n"))
+        return [row.split("\t")[1] for row in reply.split("\n") if row.startswith("\t")]
 
     def close(self) -> None:
         """See `BackEnd.close`."""

@@ -4,15 +4,25 @@
 from __future__ import annotations
 
 import os
-import re
 import shutil
 from decimal import Decimal
 from fractions import Fraction
-from typing import Iterable, Iterator, List, Mapping, Optional, Tuple, Union
+from typing import Any, Iterable, Iterator, List, Mapping, Optional, Tuple, Union
 
 from .backend import BackEnd, Definitions
-from .faults import ArgumentNeeded, BackEndError, ConformabilityError, NotAnExpression, NumeralTooLong
-from .quantity import Quantity, read_fraction
+from .faults import (
+    ArgumentNeeded,
+    BackEndError,
+    ConformabilityError,
+    NumeralTooLong,
+)
+from .lines import Scale, base_expression
+from .measured import Measured
+from .quantity import Quantity, make_quantity
+from .shown import in_list, on_scale
+from .targets import Target, Targets
+from .texts import edit_line, expression_line, plain_number
+from .unit import Unit, read_fraction
 
 Real = Union[int, float, Fraction, Decimal]
 
@@ -20,10 +30,6 @@ _FOLDER = os.path.dirname(os.path.abspath(__file__))
 _REPOSITORY = os.path.dirname(os.path.dirname(os.path.dirname(_FOLDER)))
 # Debian's package calls the program exact-units, because GNU units is called units.
 _PROGRAMS = ("exact-units", "units")
-# Bytes and first words that no expression in a session has.
-_has_special = re.compile(rb"[\n\r\0;#]").search
-_is_command = re.compile(rb"[:?]|(?:search|quit|exit|help|conformable)(?:\s|\Z)").match
-_LONGEST = 60_000
 # Of a number in a question. Both back ends refuse much shorter ones.
 _MOST_BITS = 8192
 
@@ -32,8 +38,10 @@ class Units:
     """Unit definitions that answer questions exactly.
 
     ``Units()`` has the whole library of units, ``Units(built_in=True)`` the few definitions of the program itself,
-    ``Units(path)`` those of a file with its includes, and ``Units(text=...)`` those of a text. The backend "library" uses the shared library: a question takes microseconds and no other process.
-    The backend "session" uses a session of the program. "auto" uses the library if it is available. The answers are the
+    ``Units(path)`` those of a file with its includes, and ``Units(text=...)`` those of a text.
+
+    The backend "library" uses the shared library: a question takes microseconds and no other process. The backend
+    "session" uses a session of the program. "auto" uses the library if it is available. The answers are the
     same. Threads may share the object, and the child of a fork may use it.
 
     path: a definition file in the format of GNU units.
@@ -74,6 +82,7 @@ class Units:
         environment = dict(os.environ if variables is None else variables)
         words = None if text is None else text.encode("utf-8", "surrogateescape")
         definitions = Definitions(None if path is None else os.fspath(path), words, locale, environment)
+        self._targets = Targets()
         self._back_end = _open(definitions, backend, library, program)
 
     @property
@@ -102,7 +111,7 @@ class Units:
         ...
         exact_units.faults.ConformabilityError: conformability error: 1 m and 1 s
         """
-        return read_fraction(_plain(self._back_end.convert(_expression(source), _expression(target))))
+        return read_fraction(plain_number(self._back_end.convert(expression_line(source), expression_line(target))))
 
     def to_float(self, source: str, target: str) -> float:
         """Return the float nearest to `convert(source, target)`.
@@ -118,7 +127,9 @@ class Units:
         >>> print(Units().value("2 J / s"))
         2 kg m^2 / s^3
         """
-        return self._back_end.value(_expression(expression))
+        quantity = self._back_end.value(expression_line(expression))
+        quantity._home = self
+        return quantity
 
     def convert_column(self, numbers: Iterable[Real], source: str, target: str) -> List[float]:
         """Return each number of `source` in `target`, as the float nearest to the exact answer.
@@ -139,7 +150,8 @@ class Units:
     def _column(self, numbers: Iterable[Real], source: str, target: str) -> Iterator[float]:
         one, unit = self.unit(source), self.unit(target)
         if one is None or unit is None:
-            yield from self._function_column(numbers, _expression(source), _expression(target), is_function=one is None)
+            words = expression_line(source), expression_line(target)
+            yield from self._function_column(numbers, *words, is_function=one is None)
             return
         if not one.conforms(unit):
             raise ConformabilityError(f"conformability error: {one} and {unit}")
@@ -159,8 +171,58 @@ class Units:
             if max(n.bit_length(), d.bit_length()) > _MOST_BITS:
                 raise NumeralTooLong("numeral too long")
             words = (source, n, d) if is_function else (n, d, source)
-            top, _, bottom = _plain(self._back_end.convert(pattern % words, target)).partition("|")
+            top, _, bottom = plain_number(self._back_end.convert(pattern % words, target)).partition("|")
             yield int(top) / int(bottom or 1)
+
+    def __getitem__(self, unit: str) -> Quantity:
+        """Return one of a unit, shown in that unit: ``5 * units["ft"]`` is exact, ``2.5 * units["ft"]`` is measured.
+
+        Raises `ConformabilityError` for a function and a list, and the exception of any other fault.
+
+        >>> units = Units()
+        >>> print(5 * units["ft"], 2.5 * units["ft"], 3 * units["kg"] * units["m"] / units["s"] ** 2)
+        5 ft 2.5 ft 3 kg m / s^2
+        """
+        target = self.target(unit)
+        if not isinstance(target, Unit):
+            raise ConformabilityError(f"not a unit: {unit}")
+        return make_quantity(*target.size.as_integer_ratio(), target, self)
+
+    def measured(self, value: Any, unit: str) -> Measured:
+        """Return a float or an array of floats with a unit, or on a scale such as ``tempF``.
+
+        >>> Units().measured(72, "tempF").to("K").value
+        295.3722222222222
+        """
+        return Measured(value, unit, self)
+
+    def conforming(self, quantity: Union[str, Quantity]) -> List[str]:
+        """Return the names of the units that a quantity or the value of an expression can be converted to.
+
+        >>> Units(built_in=True).conforming("2 N")
+        ['N', 'newton']
+        """
+        one = self.value(quantity) if isinstance(quantity, str) else quantity
+        return self._back_end.conforming(base_expression(Fraction(1), one._unit).encode("utf-8", "surrogateescape"))
+
+    def target(self, text: str) -> Target:
+        """Return what a quantity can be shown in: a unit, the scale of a function, or a list of units."""
+        return self._targets.find(self, text)
+
+    def show(self, quantity: Quantity, text: str) -> Quantity:
+        """Return a quantity that is shown in a unit, by a function or in a list. See `Quantity.to`."""
+        target = self.target(text)
+        if isinstance(target, Unit):
+            if target.dimension != quantity._unit.dimension:
+                raise ConformabilityError(f"conformability error: {quantity} and {text}")
+            return make_quantity(quantity._top, quantity._bottom, target, self)
+        source = base_expression(Fraction(quantity._top, quantity._bottom), quantity._unit)
+        if isinstance(target, Scale):
+            return on_scale(quantity, self.convert(source, text), target)
+        words = b";".join(expression_line(name) for name in target.names)
+        reply = self._back_end.convert(expression_line(source), words)
+        unit = self[target.names[0]]._unit
+        return in_list(quantity, unit, tuple(read_fraction(count) for count in reply.split(";")), target)
 
     def unit(self, text: str) -> Optional[Quantity]:
         """Return the value of a unit, or None for the name of a function."""
@@ -184,22 +246,26 @@ class Units:
         ...
         exact_units.faults.UnknownUnit: unknown unit: desk
         """
-        self._back_end.define(_line(line))
+        with self._targets.edit():
+            self._back_end.define(edit_line(line))
 
     def drop(self, key: str) -> None:
         """Remove the last definition of a key, such as ``ft``, the prefix ``kilo-`` or the function ``tempF()``.
 
         Raises `NoSuchDefinition`, or `BadKey` if the text is not a key.
         """
-        self._back_end.drop(_line(key))
+        with self._targets.edit():
+            self._back_end.drop(edit_line(key))
 
     def undo(self) -> None:
         """Undo the last edit. Raises `NothingToUndo` if there is none."""
-        self._back_end.undo()
+        with self._targets.edit():
+            self._back_end.undo()
 
     def redo(self) -> None:
         """Redo the last undone edit. Raises `NothingToRedo` if there is none."""
-        self._back_end.redo()
+        with self._targets.edit():
+            self._back_end.redo()
 
     def search(self, text: str) -> List[Tuple[str, str]]:
         """Return the name and the definition of each unit, prefix, function and list whose name contains a text.
@@ -207,49 +273,19 @@ class Units:
         >>> Units().search("furlong")
         [('furlong', '660 foot'), ('survey_furlong', '660 survey_foot')]
         """
-        rows = self._back_end.search(_line(text))
+        rows = self._back_end.search(edit_line(text))
         return [(name, definition) for _, name, definition in (row.split("\t", 2) for row in rows if "\t" in row)]
 
     def close(self) -> None:
         """End the session or free the table. Any later question raises `BackEndError`."""
-        self._back_end.close()
+        with self._targets.edit():
+            self._back_end.close()
 
     def __enter__(self) -> "Units":
         return self
 
     def __exit__(self, *_: object) -> None:
         self.close()
-
-
-def _bytes(text: str) -> bytes:
-    """Return the bytes of a text. Bytes that are not UTF-8, as in a name that `search` has found, are kept."""
-    try:
-        return text.encode("utf-8", "surrogateescape").strip(b" \t")
-    except UnicodeEncodeError:
-        raise NotAnExpression(f"not a text: {text[:40]!r}") from None
-
-
-def _line(text: str) -> bytes:
-    """Return a text without a comment and the blanks around it, if it is a single line that a session reads whole."""
-    line = _bytes(text).partition(b"#")[0].rstrip(b" \t")
-    if not line or len(line) > _LONGEST or any(c in line for c in b"\n\r\0"):
-        raise NotAnExpression(f"not one line: {text[:40]!r}")
-    return line
-
-
-def _expression(text: str) -> bytes:
-    """Return a text without the blanks around it, if both back ends read it as an expression."""
-    line = _bytes(text)
-    if not line or len(line) > _LONGEST or _has_special(line) or _is_command(line):
-        raise NotAnExpression(f"not an expression: {text[:40]!r}")
-    return line
-
-
-def _plain(reply: str) -> str:
-    """Return a reply if it is only a number, or raise `ConformabilityError`."""
-    if " " in reply:
-        raise ConformabilityError(f"not a plain number: {reply}")
-    return reply
 
 
 def _open(definitions: Definitions, backend: str, library: Optional[str], program: Optional[str]) -> BackEnd:
@@ -304,3 +340,23 @@ def _built_in(program: Optional[str]) -> bytes:
     from .session_process import saved_definitions
 
     return saved_definitions(_program(program))
+
+
+class _Default:
+    """The definitions of quantities that have none of their own."""
+
+    units: Optional[Units] = None
+
+
+def default_units() -> Units:
+    """Return the definitions of quantities that have none of their own, such as unpickled ones."""
+    if _Default.units is None:
+        # Of two threads that open one, both take the same.
+        units = Units()
+        _Default.units = _Default.units or units
+    return _Default.units
+
+
+def set_default_units(units: Optional[Units]) -> None:
+    """Choose the definitions of quantities that have none of their own. None chooses `Units()`."""
+    _Default.units = units

@@ -377,9 +377,10 @@ class QuantityTests(unittest.TestCase):
             (faults.NoExactRoot, lambda: Quantity(2) ** Fraction(1, 2)),
             (faults.NoExactRoot, lambda: Quantity(-4) ** Fraction(1, 2)),
             (faults.ConformabilityError, lambda: float(self.length)),
-            (TypeError, lambda: self.length + 1.5),
+            (faults.UnlikeSum, lambda: self.length + 1.5),
+            (TypeError, lambda: self.length + "1.5"),
             (TypeError, lambda: Quantity(1.5)),
-            (TypeError, lambda: self.length ** 0.5),
+            (TypeError, lambda: self.length ** "0.5"),
         ):
             with self.assertRaises(kind):
                 act()
