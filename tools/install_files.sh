@@ -68,7 +68,7 @@ add_units_why() {
     add 644 "$root/tools/units_lsp_files.py" "${server%/*}/units_lsp_files.py"
     for file in "$root"/share/editors/*; do
         add_edited 644 "$file" "$prefix/share/$name/editors/${file##*/}" \
-            "s#(/usr/local/share/units/lsp|\btools)/units_lsp\.py#$(as_replacement "$server")#g
+            "/\.\.\/tools/!s#(/usr/local/share/units/lsp|\btools)/units_lsp\.py#$(as_replacement "$server")#g
              s#/usr/local/share/units/editors#$(as_replacement "$prefix/share/$name/editors")#g"
     done
 }
