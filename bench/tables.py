@@ -144,6 +144,7 @@ FORMS: dict[str, Callable[[str], str]] = {
     "c_library": columns,
     "conversions": gnu_comparison,
     "expressions": long_texts,
+    "gates": plain,
     "numbers": python_comparison,
     "quantities": python_comparison,
     "releases": columns,
