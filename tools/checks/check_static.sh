@@ -125,22 +125,24 @@ check_memory() {
 }
 
 # refuse_mappings FILE TO: refuses each request for memory of a conversion with this file, alone and with all later
-# ones. Each such run has to end with status 6 and to write nothing to standard output.
+# ones of its kind. Each such run has to end with status 6 and to write nothing to standard output.
 refuse_mappings() {
-    local definitions=$1 to=$2 count at later status
-    strace -e trace=mmap,mremap,brk -o "$folder/calls" "$static" -f "$definitions" m "$to" > /dev/null 2>&1
-    count=$(grep -c '^m' "$folder/calls")
-    [ "$count" -gt 0 ] && ! grep -q '^brk' "$folder/calls" || return 1
-    for ((at = 1; at <= count; at++)); do
-        for later in '' +; do
-            strace -e trace=mmap,mremap -e inject=mmap,mremap:error=ENOMEM:when="$at$later" -o "$folder/calls" \
-                "$static" -f "$definitions" m "$to" > "$folder/out" 2> /dev/null
-            status=$?
-            if [ "$status" -ne 6 ] || [ -s "$folder/out" ]; then
-                echo "with request $at$later of $count refused: status $status, and it wrote:"
-                cat "$folder/out"
-                return 1
-            fi
+    local definitions=$1 to=$2 call count at later status
+    strace -e trace=mmap,mremap,brk -o "$folder/requests" "$static" -f "$definitions" m "$to" > /dev/null 2>&1
+    grep -q '^mmap' "$folder/requests" && ! grep -q '^brk' "$folder/requests" || return 1
+    for call in mmap mremap; do
+        count=$(grep -c "^$call" "$folder/requests")
+        for ((at = 1; at <= count; at++)); do
+            for later in '' +; do
+                strace -e "trace=$call" -e "inject=$call:error=ENOMEM:when=$at$later" -o "$folder/calls" \
+                    "$static" -f "$definitions" m "$to" > "$folder/out" 2> /dev/null
+                status=$?
+                if [ "$status" -ne 6 ] || [ -s "$folder/out" ]; then
+                    echo "with $call $at$later of $count refused: status $status, and it wrote:"
+                    cat "$folder/out"
+                    return 1
+                fi
+            done
         done
     done
 }
