@@ -748,7 +748,7 @@ The built-in definitions by name, which no file may be named beside.
 
 The command of bin/ reads the words and the definitions of qunits, unless an option names other definitions.
 
-  $ places() { sed -n "s#$CLONE/##; s/.*\[\(.*\):.*/\1/p" | uniq; }
+  $ places() { sed -n 's/.*\[\(.*\):.*/\1/p' | sed 's#.*/\(share/units/\)#\1#' | uniq; }
   $ units-why 60 mph | head -n 1
   \tDefinition: 26.8224 m / s (esc)
   $ units-why 60 mph | places
