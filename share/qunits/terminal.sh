@@ -55,7 +55,7 @@ run_visibly() {
     return "$code"
 }
 
-# show_list COMMAND..: shows the output of the command, on a terminal by a pager. An interrupt goes to the pager alone.
+# show_list COMMAND..: shows the output of the command, on a terminal by a pager.
 show_list() {
     if ! [ -t 1 ]; then "$@"; return; fi
     pager=${PAGER-less -FRX}

@@ -334,7 +334,6 @@ def try_pager(check: Check, room: Path) -> None:
     shell = f"trap : INT; {shlex.join(large)}; echo status $?; read -r line; echo got $line"
     terminal = Terminal(["/bin/sh", "-c", shell], environment, home)
     check.count("a long list by less", terminal.shows(r"name_10030\s+:"), terminal.text())
-    check.exchange(terminal, "goes on after an interrupt", "\x03", "(?s).")
     check.exchange(terminal, "goes forward", " ", "name_10031")
     check.exchange(terminal, "and ends", "q", r"status 0\s")
     check.exchange(terminal, "in step with the shell", "word\n", "got word")
